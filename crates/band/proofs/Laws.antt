@@ -1,0 +1,189 @@
+-- The laws of specs/Laws.antt. Those that callers cite by themselves are public.
+-- Assumes nothing.
+use Prim.Native.Nat.{ℕ, zero, suc, _+_, _-_, _*_, _/_, _%_, _^_, _≤_, _<_, min}
+use mathlib.Core.List.{List, [], _∷_, foldl}
+use mathlib.Core.Logic.{_⊎_, inl, inr, ⊎-elim}
+use mathlib.Core.Path.{_≡_, refl}
+use native.Mathlib.Nat.{mul-le-mul, mul-le-mul-left, mul-le-mul-right, le-of-mul-le-mul-right, mul-left-comm, mul-right-comm, mul-suc, add-mul, mul-mod-left, div-mul-le-self, lt-div-mul-add, le-div-iff-mul-le, div-lt-iff-lt-mul, div-zero, le-trans}
+use native.Mathlib.Decide.{ℕ-discrete}
+use native.Mathlib.Omega.{arith}
+use borrow.Author.Tests.{ltb-true, ltb-false, eqb-true, eqb-false, eq-eqb, ne-eqb}
+use lib.Dec.{ltb, leb, eqb}
+use lib.ListN.{length}
+use Rattle.forms.proofs.Choice.{if-true, if-false, if-arms}
+use Rattle.forms.proofs.Promises.{agree}
+use Rattle.band.specs.Band.{small, percentOf, factorOf, spreadOf, cent, lowerOf, upperOf, bandsOf, meanOf, movesOf}
+use Rattle.band.specs.Laws.{Within, meanOfAll, Laws}
+use Rattle.band.proofs.Examples.{examples}
+
+-- ------------------------------------------------------------------ percent and factor
+
+-- the small rule, or a percent from 5 to 20
+pub percent-is : (tier close : ℕ) → (percentOf tier close ≡ small) ⊎ ((5 ≤ percentOf tier close) × (percentOf tier close ≤ 20))
+unfolding percentOf
+percent-is tier close =
+    let P : ℕ → Type 0 = λ p. (p ≡ small) ⊎ ((5 ≤ p) × (p ≤ 20)) in
+    if-arms P _ (λ e. if-arms P _ (λ e. inr (omega arith)) (λ e. inr (omega arith)))
+    (λ e. if-arms P _ (λ e. inr (omega arith)) (λ e. inl refl))
+
+-- the leverage is at most 3 where it counts, and k is at most twice that
+pub factor-most : (leverage time end : ℕ) → factorOf leverage time end ≤ 6
+unfolding factorOf
+factor-most leverage time end =
+    let P : ℕ → Type 0 = λ k. k ≤ 6 in
+    if-arms P (ltb 3 leverage) (λ e. omega arith)
+    (λ e. let i = ltb-false 3 leverage e in if-arms P _ (λ e. omega arith) (λ e. omega arith))
+
+pub factor-least : (leverage time end : ℕ) → 1 ≤ leverage → leverage ≤ 3 → 1 ≤ factorOf leverage time end
+unfolding factorOf
+factor-least leverage time end h i =
+    let P : ℕ → Type 0 = λ k. 1 ≤ k in
+    if-arms P (ltb 3 leverage) (λ e. let j = ltb-true 3 leverage e in omega arith)
+    (λ e. if-arms P _ (λ e. omega arith) (λ e. omega arith))
+
+-- ------------------------------------------------------------------ rounding
+
+-- of x / d, with q the whole cents: q * (10,000 * d) <= x + 5,000 * d < (q + 1) * (10,000 * d)
+pub nearest : (x d : ℕ) → 1 ≤ d → (100 * (cent x d * d) ≤ x + 5_000 * d) × (x < 100 * (cent x d * d) + 5_000 * d)
+unfolding cent
+nearest x d h =
+    let q = (x + 5_000 * d) / (10_000 * d) in
+    let below = div-mul-le-self (x + 5_000 * d) (10_000 * d) in
+    let above = lt-div-mul-add {a = x + 5_000 * d} {b = 10_000 * d} (omega arith) in
+    let at = mul-left-comm q 10_000 d in
+    let by = mul-right-comm q 100 d in
+    (omega arith, omega arith)
+
+cent-mono : (x y d : ℕ) → 1 ≤ d → x ≤ y → cent x d ≤ cent y d
+unfolding cent
+cent-mono x y d h i =
+    let q : (x + 5_000 * d) / (10_000 * d) ≤ (y + 5_000 * d) / (10_000 * d) =
+    le-div-iff-mul-le {k = 10_000 * d} (omega arith) .1 (le-trans (div-mul-le-self (x + 5_000 * d) (10_000 * d)) (omega arith)) in
+    omega arith
+
+-- ------------------------------------------------------------------ A, and the bands
+
+-- A is at least 5,000 / 10,000 of a cent, so that rounding does not reach over the reference
+spread-least : (n d percent k : ℕ) → 1_000 * d ≤ n → 1 ≤ k → (percent ≡ small) ⊎ ((5 ≤ percent) × (percent ≤ 20))
+    → 5_000 * d ≤ spreadOf n d percent k
+unfolding spreadOf
+spread-least n d p k h i (inl e) =
+    let m : 1 * min (150_000 * d) (75 * n) ≤ k * min (150_000 * d) (75 * n) = mul-le-mul-right _ i in
+    rw (eq-eqb p small e, if-true) (omega arith)
+spread-least n d p k h i (inr j) =
+    let m : 1 * 5 * n ≤ k * p * n = mul-le-mul-right n (mul-le-mul i (j .0)) in
+    rw (ne-eqb p small (λ e. omega arith), if-false) (omega arith)
+
+-- A is at most 120 percent, or 6 times 15 cents
+spread-most : (n d percent k : ℕ) → k ≤ 6 → (percent ≡ small) ⊎ ((5 ≤ percent) × (percent ≤ 20))
+    → spreadOf n d percent k ≤ 120 * n + 900_000 * d
+unfolding spreadOf
+spread-most n d p k i (inl e) =
+    let m : k * min (150_000 * d) (75 * n) ≤ 6 * min (150_000 * d) (75 * n) = mul-le-mul-right _ i in
+    rw (eq-eqb p small e, if-true) (omega arith)
+spread-most n d p k i (inr j) =
+    let m : k * p * n ≤ 6 * 20 * n = mul-le-mul-right n (mul-le-mul i (j .1)) in
+    rw (ne-eqb p small (λ e. omega arith), if-false) (omega arith)
+
+-- the upper band is the rounded number, and at least 1
+upper-above : (n d percent k : ℕ) → (cent (100 * n + spreadOf n d percent k) d ≤ upperOf n d percent k) × (1 ≤ upperOf n d percent k)
+unfolding upperOf
+upper-above n d p k =
+    let u = cent (100 * n + spreadOf n d p k) d in
+    if-arms (λ x. (u ≤ x) × (1 ≤ x)) (eqb u 0) (λ e. let z = eqb-true u 0 e in omega arith) (λ e. let z = eqb-false u 0 e in omega arith)
+
+pub around : (n d tier close leverage time end : ℕ) → 1 ≤ d → 1_000 * d ≤ n → 1 ≤ leverage → leverage ≤ 3
+    → (lowerOf n d (percentOf tier close) (factorOf leverage time end) * d ≤ n)
+    × (n ≤ upperOf n d (percentOf tier close) (factorOf leverage time end) * d)
+unfolding lowerOf
+around n d tier close leverage time end h i l m =
+    let p = percentOf tier close in
+    let k = factorOf leverage time end in
+    let a = spreadOf n d p k in
+    let far = spread-least n d p k i (factor-least leverage time end l m) (percent-is tier close) in
+    let down = nearest (100 * n - a) d h in
+    let up = nearest (100 * n + a) d h in
+    let more = mul-le-mul-right d (upper-above n d p k .0) in
+    (omega arith, omega arith)
+
+pub ordered : (n d percent k : ℕ) → 1 ≤ d → lowerOf n d percent k ≤ upperOf n d percent k
+unfolding lowerOf
+ordered n d p k h =
+    le-trans (cent-mono (100 * n - spreadOf n d p k) (100 * n + spreadOf n d p k) d h (omega arith)) (upper-above n d p k .0)
+
+pub upper-is : (n d percent k : ℕ) → upperOf n d percent k ≡ 0 → ⊥
+upper-is n d p k e = let h = upper-above n d p k .1 in omega arith
+
+pub upper-fits : (n d tier close leverage time end : ℕ) → 1 ≤ d → n ≤ 999_999_999 * d
+    → upperOf n d (percentOf tier close) (factorOf leverage time end) < 2 ^ 32
+unfolding upperOf
+upper-fits n d tier close leverage time end h i =
+    let p = percentOf tier close in
+    let k = factorOf leverage time end in
+    let a = spreadOf n d p k in
+    let u = cent (100 * n + a) d in
+    let near = spread-most n d p k (factor-most leverage time end) (percent-is tier close) in
+    let below = nearest (100 * n + a) d h in
+    let by-d : u * d ≤ 2_200_009_100 * d = omega arith in
+    let small-u : u ≤ 2_200_009_100 = le-of-mul-le-mul-right by-d h in
+    if-arms (λ x. x < 2 ^ 32) (eqb u 0) (λ e. omega arith) (λ e. omega arith)
+
+pub whole-cents : (n d percent k : ℕ) → (lowerOf n d percent k % 100 ≡ 0) × (upperOf n d percent k % 100 ≡ 0)
+unfolding lowerOf upperOf cent
+whole-cents n d p k = (mul-mod-left _ 100, if-arms (λ x. x % 100 ≡ 0) _ (λ e. refl) (λ e. mul-mod-left _ 100))
+
+-- ------------------------------------------------------------------ the mean
+
+pub mean-most : (sum count high : ℕ) → sum ≤ high * count → meanOf sum count ≤ high
+unfolding meanOf
+mean-most s c high h = go (ℕ-discrete c 0)
+  where
+    go : Dec (c ≡ 0) → (2 * s + c) / (2 * c) ≤ high
+    go (yes z) = rw (z, div-zero) (omega arith)
+    go (no z) =
+        let p : 0 < 2 * c = omega arith in
+        let by = mul-left-comm high 2 c in
+        let q : (2 * s + c) / (2 * c) < high + 1 = div-lt-iff-lt-mul p .1 (rw add-mul (omega arith)) in
+        omega arith
+
+pub mean-least : (sum count low : ℕ) → 1 ≤ count → low * count ≤ sum → low ≤ meanOf sum count
+unfolding meanOf
+mean-least s c low h i =
+    let by = mul-left-comm low 2 c in
+    le-div-iff-mul-le {k = 2 * c} (omega arith) .1 (omega arith)
+
+-- bounds of each price bound the sum
+sums : (low high sum : ℕ) (prices : List ℕ) → Within low high prices
+    → (sum + low * length prices ≤ foldl _+_ sum prices) × (foldl _+_ sum prices ≤ sum + high * length prices)
+sums low high s [] w = (omega arith, omega arith)
+sums low high s (x ∷ xs) w =
+    let rest = sums low high (s + x) xs (w .1) in
+    let l = mul-suc low (length xs) in
+    let h = mul-suc high (length xs) in
+    (omega arith, omega arith)
+
+pub mean-between : (low high price : ℕ) (prices : List ℕ) → Within low high (price ∷ prices)
+    → (low ≤ meanOfAll (price ∷ prices)) × (meanOfAll (price ∷ prices) ≤ high)
+mean-between low high x xs w =
+    let s = sums low high 0 (x ∷ xs) w in
+    (mean-least _ (length (x ∷ xs)) low (omega arith) (omega arith), mean-most _ (length (x ∷ xs)) high (omega arith))
+
+-- ------------------------------------------------------------------ all of them
+
+pub laws : Laws
+laws = record {
+  around = around;
+  ordered = ordered;
+  upper-is = upper-is;
+  upper-fits = upper-fits;
+  whole-cents = whole-cents;
+  nearest = nearest;
+  mean-between = mean-between;
+  mean-in-range = mean-between 1 999_999_999;
+  examples = examples;
+  percent-determined = λ tier close. agree (percentOf tier close);
+  factor-determined = λ leverage time end. agree (factorOf leverage time end);
+  bands-determined = λ reference percent k. agree (bandsOf reference 1 percent k);
+  mean-determined = λ sum count. agree (meanOf sum count);
+  moves-determined = λ mean reference. agree (movesOf mean 1 reference 1);
+}

@@ -1,0 +1,62 @@
+-- Document 01, "Band arithmetic", and of "States" the one percent test. A price is whole ten-thousandths of a dollar.
+-- A reference is a fraction n / d, and so is a mean; in the base both are whole prices, with d = 1.
+-- Assumes nothing.
+use Prim.Native.Nat.{ℕ, _+_, _-_, _*_, _/_, min}
+use mathlib.Core.Bool.{Bool}
+use mathlib.Core.List.{[], _∷_}
+use lib.Dec.{ltb, leb, eqb}
+use Rattle.forms.specs.Choice.{if_then_else_, anyOf}
+use Rattle.band.specs.declared.Limits.{Limits}
+
+-- the small rule: it stands where a percent would
+abbrev pub small : ℕ
+small = 0
+
+-- the percent that the previous close fixes for the day; a tier that there is not counts as tier 2
+unfoldable pub percentOf : ℕ → ℕ → ℕ
+percentOf tier close =
+    if ltb 30_000 close then (if eqb tier 1 then 5 else 10) else
+    if leb 7_500 close then 20 else
+    small
+
+-- factor k: the leverage, doubled at the session's start and end; a leverage that there is not counts as 0
+unfoldable pub factorOf : ℕ → ℕ → ℕ → ℕ
+factorOf leverage time end =
+    if ltb 3 leverage then 0 else
+    if anyOf (ltb time 900_000 ∷ leb (end - 1_500_000) time ∷ []) then 2 * leverage else
+    leverage
+
+-- A times d: k x percent x r, or by the small rule k x the lesser of 150,000 and 75 x r
+unfoldable pub spreadOf : ℕ → ℕ → ℕ → ℕ → ℕ
+spreadOf n d percent k =
+    if eqb percent small then k * min (150_000 * d) (75 * n) else
+    k * percent * n
+
+-- x / d rounded to the nearest cent: add 5,000, divide by 10,000 dropping the rest, times 100
+unfoldable pub cent : ℕ → ℕ → ℕ
+cent x d = (x + 5_000 * d) / (10_000 * d) * 100
+
+-- 100 x r - A, at least 0, rounded
+unfoldable pub lowerOf : ℕ → ℕ → ℕ → ℕ → ℕ
+lowerOf n d percent k = cent (100 * n - spreadOf n d percent k) d
+
+-- 100 x r + A, rounded; 0 becomes 100
+unfoldable pub upperOf : ℕ → ℕ → ℕ → ℕ → ℕ
+upperOf n d percent k =
+    let u = cent (100 * n + spreadOf n d percent k) d in
+    if eqb u 0 then 100 else u
+
+unfoldable pub bandsOf : ℕ → ℕ → ℕ → ℕ → Limits
+bandsOf n d percent k = record { lower = lowerOf n d percent k; upper = upperOf n d percent k }
+
+-- the mean of `count` prices with that sum, dropping the rest; of no price it is 0, since x / 0 is 0
+unfoldable pub meanOf : ℕ → ℕ → ℕ
+meanOf sum count = (2 * sum + count) / (2 * count)
+
+-- the distance of two numbers, of whose differences one is 0
+unfoldable pub distance : ℕ → ℕ → ℕ
+distance a b = (a - b) + (b - a)
+
+-- the one percent test of a mean m / c and a reference n / d: 100 x |mean - reference| >= reference
+unfoldable pub movesOf : ℕ → ℕ → ℕ → ℕ → Bool
+movesOf m c n d = leb (n * c) (100 * distance (m * d) (n * c))

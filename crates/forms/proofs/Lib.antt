@@ -1,0 +1,5 @@
+pub mod Choice
+pub mod Checks
+pub mod Tables
+pub mod Loops
+pub mod Promises

@@ -1,0 +1,4 @@
+pub mod Choice
+pub mod Checks
+pub mod Tables
+pub mod Promises
