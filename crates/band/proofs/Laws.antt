@@ -1,19 +1,19 @@
 -- The laws of specs/Laws.antt. Those that callers cite by themselves are public.
 -- Assumes nothing.
-use Prim.Native.Nat.{ℕ, zero, suc, _+_, _-_, _*_, _/_, _%_, _^_, _≤_, _<_, min}
+use Prim.Native.Nat.{ℕ, _+_, _-_, _*_, _/_, _%_, _^_, _≤_, _<_, min}
 use mathlib.Core.List.{List, [], _∷_, foldl}
-use mathlib.Core.Logic.{_⊎_, inl, inr, ⊎-elim}
+use mathlib.Core.Logic.{_⊎_, inl, inr}
 use mathlib.Core.Path.{_≡_, refl}
-use native.Mathlib.Nat.{mul-le-mul, mul-le-mul-left, mul-le-mul-right, le-of-mul-le-mul-right, mul-left-comm, mul-right-comm, mul-suc, add-mul, mul-mod-left, div-mul-le-self, lt-div-mul-add, le-div-iff-mul-le, div-lt-iff-lt-mul, div-zero, le-trans}
+use native.Mathlib.Nat.{mul-le-mul, mul-le-mul-right, le-of-mul-le-mul-right, mul-left-comm, mul-right-comm, mul-suc, add-mul, mul-mod-left, div-mul-le-self, lt-div-mul-add, le-div-iff-mul-le, div-lt-iff-lt-mul, div-zero, le-trans}
 use native.Mathlib.Decide.{ℕ-discrete}
 use native.Mathlib.Omega.{arith}
 use borrow.Author.Tests.{ltb-true, ltb-false, eqb-true, eqb-false, eq-eqb, ne-eqb}
-use lib.Dec.{ltb, leb, eqb}
+use lib.Dec.{ltb, eqb}
 use lib.ListN.{length}
 use Rattle.forms.proofs.Choice.{if-true, if-false, if-arms}
 use Rattle.forms.proofs.Promises.{agree}
 use Rattle.band.specs.Band.{small, percentOf, factorOf, spreadOf, cent, lowerOf, upperOf, bandsOf, meanOf, movesOf}
-use Rattle.band.specs.Laws.{Within, meanOfAll, Laws}
+use Rattle.band.specs.Laws.{Within, Around, Ordered, UpperNot0, UpperFits, WholeCents, Nearest, MeanBetween, Laws}
 use Rattle.band.proofs.Examples.{examples}
 
 -- ------------------------------------------------------------------ percent and factor
@@ -44,7 +44,7 @@ factor-least leverage time end h i =
 -- ------------------------------------------------------------------ rounding
 
 -- of x / d, with q the whole cents: q * (10,000 * d) <= x + 5,000 * d < (q + 1) * (10,000 * d)
-pub nearest : (x d : ℕ) → 1 ≤ d → (100 * (cent x d * d) ≤ x + 5_000 * d) × (x < 100 * (cent x d * d) + 5_000 * d)
+pub nearest : Nearest
 unfolding cent
 nearest x d h =
     let q = (x + 5_000 * d) / (10_000 * d) in
@@ -63,7 +63,7 @@ cent-mono x y d h i =
 
 -- ------------------------------------------------------------------ A, and the bands
 
--- A is at least 5,000 / 10,000 of a cent, so that rounding does not reach over the reference
+-- A is at least half a cent, so that rounding does not reach over the reference
 spread-least : (n d percent k : ℕ) → 1_000 * d ≤ n → 1 ≤ k → (percent ≡ small) ⊎ ((5 ≤ percent) × (percent ≤ 20))
     → 5_000 * d ≤ spreadOf n d percent k
 unfolding spreadOf
@@ -92,9 +92,7 @@ upper-above n d p k =
     let u = cent (100 * n + spreadOf n d p k) d in
     if-arms (λ x. (u ≤ x) × (1 ≤ x)) (eqb u 0) (λ e. let z = eqb-true u 0 e in omega arith) (λ e. let z = eqb-false u 0 e in omega arith)
 
-pub around : (n d tier close leverage time end : ℕ) → 1 ≤ d → 1_000 * d ≤ n → 1 ≤ leverage → leverage ≤ 3
-    → (lowerOf n d (percentOf tier close) (factorOf leverage time end) * d ≤ n)
-    × (n ≤ upperOf n d (percentOf tier close) (factorOf leverage time end) * d)
+pub around : Around
 unfolding lowerOf
 around n d tier close leverage time end h i l m =
     let p = percentOf tier close in
@@ -106,16 +104,15 @@ around n d tier close leverage time end h i l m =
     let more = mul-le-mul-right d (upper-above n d p k .0) in
     (omega arith, omega arith)
 
-pub ordered : (n d percent k : ℕ) → 1 ≤ d → lowerOf n d percent k ≤ upperOf n d percent k
+pub ordered : Ordered
 unfolding lowerOf
 ordered n d p k h =
     le-trans (cent-mono (100 * n - spreadOf n d p k) (100 * n + spreadOf n d p k) d h (omega arith)) (upper-above n d p k .0)
 
-pub upper-is : (n d percent k : ℕ) → upperOf n d percent k ≡ 0 → ⊥
-upper-is n d p k e = let h = upper-above n d p k .1 in omega arith
+pub upper-not-0 : UpperNot0
+upper-not-0 n d p k e = let h = upper-above n d p k .1 in omega arith
 
-pub upper-fits : (n d tier close leverage time end : ℕ) → 1 ≤ d → n ≤ 999_999_999 * d
-    → upperOf n d (percentOf tier close) (factorOf leverage time end) < 2 ^ 32
+pub upper-fits : UpperFits
 unfolding upperOf
 upper-fits n d tier close leverage time end h i =
     let p = percentOf tier close in
@@ -128,7 +125,7 @@ upper-fits n d tier close leverage time end h i =
     let small-u : u ≤ 2_200_009_100 = le-of-mul-le-mul-right by-d h in
     if-arms (λ x. x < 2 ^ 32) (eqb u 0) (λ e. omega arith) (λ e. omega arith)
 
-pub whole-cents : (n d percent k : ℕ) → (lowerOf n d percent k % 100 ≡ 0) × (upperOf n d percent k % 100 ≡ 0)
+pub whole-cents : WholeCents
 unfolding lowerOf upperOf cent
 whole-cents n d p k = (mul-mod-left _ 100, if-arms (λ x. x % 100 ≡ 0) _ (λ e. refl) (λ e. mul-mod-left _ 100))
 
@@ -162,8 +159,7 @@ sums low high s (x ∷ xs) w =
     let h = mul-suc high (length xs) in
     (omega arith, omega arith)
 
-pub mean-between : (low high price : ℕ) (prices : List ℕ) → Within low high (price ∷ prices)
-    → (low ≤ meanOfAll (price ∷ prices)) × (meanOfAll (price ∷ prices) ≤ high)
+pub mean-between : MeanBetween
 mean-between low high x xs w =
     let s = sums low high 0 (x ∷ xs) w in
     (mean-least _ (length (x ∷ xs)) low (omega arith) (omega arith), mean-most _ (length (x ∷ xs)) high (omega arith))
@@ -174,7 +170,7 @@ pub laws : Laws
 laws = record {
   around = around;
   ordered = ordered;
-  upper-is = upper-is;
+  upper-not-0 = upper-not-0;
   upper-fits = upper-fits;
   whole-cents = whole-cents;
   nearest = nearest;

@@ -1,5 +1,5 @@
 -- Document 01, "Band arithmetic", and of "States" the one percent test. A price is whole ten-thousandths of a dollar.
--- A reference is a fraction n / d, and so is a mean; in the base both are whole prices, with d = 1.
+-- A reference is a fraction n / d, and so is a mean; today both are whole prices, with d = 1.
 -- Assumes nothing.
 use Prim.Native.Nat.{ℕ, _+_, _-_, _*_, _/_, min}
 use mathlib.Core.Bool.{Bool}
@@ -26,21 +26,21 @@ factorOf leverage time end =
     if anyOf (ltb time 900_000 ∷ leb (end - 1_500_000) time ∷ []) then 2 * leverage else
     leverage
 
--- A times d: k x percent x r, or by the small rule k x the lesser of 150,000 and 75 x r
+-- A of a reference n / d, as a number over d, in hundredths of a price's unit; by the small rule 15 cents at most
 unfoldable pub spreadOf : ℕ → ℕ → ℕ → ℕ → ℕ
 spreadOf n d percent k =
     if eqb percent small then k * min (150_000 * d) (75 * n) else
     k * percent * n
 
--- x / d rounded to the nearest cent: add 5,000, divide by 10,000 dropping the rest, times 100
+-- x / d, which counts hundredths of a price's unit, as a price in whole cents; a half goes up
 unfoldable pub cent : ℕ → ℕ → ℕ
 cent x d = (x + 5_000 * d) / (10_000 * d) * 100
 
--- 100 x r - A, at least 0, rounded
+-- the reference less A; a difference of natural numbers is at least 0
 unfoldable pub lowerOf : ℕ → ℕ → ℕ → ℕ → ℕ
 lowerOf n d percent k = cent (100 * n - spreadOf n d percent k) d
 
--- 100 x r + A, rounded; 0 becomes 100
+-- the reference plus A, and a cent where that comes to nothing
 unfoldable pub upperOf : ℕ → ℕ → ℕ → ℕ → ℕ
 upperOf n d percent k =
     let u = cent (100 * n + spreadOf n d percent k) d in

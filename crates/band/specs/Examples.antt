@@ -2,7 +2,7 @@
 -- edges of k and of the one percent test.
 -- Assumes nothing.
 use Prim.Native.Nat.{ℕ, _+_}
-use mathlib.Core.Bool.{Bool, true, false, not}
+use mathlib.Core.Bool.{Bool, not}
 use mathlib.Core.List.{List, [], _∷_}
 use lib.Dec.{eqb}
 use Rattle.forms.specs.Choice.{allOf}
@@ -12,30 +12,30 @@ use Rattle.band.specs.Band.{small, percentOf, factorOf, lowerOf, upperOf
 pub data Row : Type 0 where
   percent : (tier close is : ℕ) → Row
   factor : (leverage time end is : ℕ) → Row
-  bands : (reference percent k lower upper : ℕ) → Row
+  bands : (n d percent k lower upper : ℕ) → Row
   mean : (sum count is : ℕ) → Row
-  stays : (mean reference : ℕ) → Row
-  changes : (mean reference : ℕ) → Row
+  stays : (m c n d : ℕ) → Row
+  changes : (m c n d : ℕ) → Row
 
 unfoldable pub right : Row → Bool
 right (percent tier close is) = eqb (percentOf tier close) is
 right (factor leverage time end is) = eqb (factorOf leverage time end) is
-right (bands r p k lower upper) = allOf (eqb (lowerOf r 1 p k) lower ∷ eqb (upperOf r 1 p k) upper ∷ [])
+right (bands n d p k lower upper) = allOf (eqb (lowerOf n d p k) lower ∷ eqb (upperOf n d p k) upper ∷ [])
 right (mean sum count is) = eqb (meanOf sum count) is
-right (stays m r) = not (movesOf m 1 r 1)
-right (changes m r) = movesOf m 1 r 1
+right (stays m c n d) = not (movesOf m c n d)
+right (changes m c n d) = movesOf m c n d
 
 unfoldable pub byHand : List Row
 byHand =
-    -- B1 and B2: the Plan's own example, $11.50 in tier 2, first doubled and then from 9:45
-    bands 115_000 10 1 103_500 126_500 ∷
-    bands 115_000 10 2 92_000 138_000 ∷
+    -- B1 and B2, the example of the Tenth Amendment's notice: $11.50 in tier 2, from 9:45 on and, doubled, before it
+    bands 115_000 1 10 1 103_500 126_500 ∷
+    bands 115_000 1 10 2 92_000 138_000 ∷
     -- B3 to B7
-    bands 31_000 5 1 29_500 32_600 ∷
-    bands 5_000 small 1 3_500 6_500 ∷
-    bands 1_000 small 1 300 1_800 ∷
-    bands 1_000 small 2 0 2_500 ∷
-    bands 28 small 1 0 100 ∷
+    bands 31_000 1 5 1 29_500 32_600 ∷
+    bands 5_000 1 small 1 3_500 6_500 ∷
+    bands 1_000 1 small 1 300 1_800 ∷
+    bands 1_000 1 small 2 0 2_500 ∷
+    bands 28 1 small 1 0 100 ∷
     -- B8, in both tiers
     percent 1 7_499 small ∷
     percent 1 7_500 20 ∷
@@ -54,8 +54,17 @@ byHand =
     factor 3 21_899_999 23_400_000 3 ∷
     factor 3 21_900_000 23_400_000 6 ∷
     -- the test, from above and from below: one percent is enough
-    stays 100_999 100_000 ∷
-    changes 101_000 100_000 ∷
-    stays 99_001 100_000 ∷
-    changes 99_000 100_000 ∷
+    stays 100_999 1 100_000 1 ∷
+    changes 101_000 1 100_000 1 ∷
+    stays 99_001 1 100_000 1 ∷
+    changes 99_000 1 100_000 1 ∷
+    -- of fractions: a mean of 100,999.5, and a reference of 100,000.5
+    stays 201_999 2 100_000 1 ∷
+    changes 202_000 2 100_000 1 ∷
+    stays 101_000 1 200_001 2 ∷
+    changes 101_001 1 200_001 2 ∷
+    -- bands of 100,999.5 by percent, of 1,000.5 and 3,000.5 by the small rule
+    bands 201_999 2 10 1 90_900 111_100 ∷
+    bands 2_001 2 small 1 300 1_800 ∷
+    bands 6_001 2 small 1 1_500 4_500 ∷
     []

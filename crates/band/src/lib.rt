@@ -7,6 +7,7 @@ ghost use Rattle.band.specs.Band.{percentOf, factorOf, spreadOf, cent, b
 // The percent that stands for the small rule.
 const SMALL: u8 = 0;
 
+// A lower and an upper band: `Bands` would differ from `bands` in a letter's case alone.
 pub struct Limits {
     pub lower: u64,
     pub upper: u64,
@@ -61,6 +62,7 @@ fn spread(reference: u32, percent: u8, k: u8) -> u64
     f * (percent as u64) * r
 }
 
+// The nearest cent, a half going up.
 fn to_cent(x: u64) -> u64
     requires { ⌜ x < 2 ^ 49 ⌝ }
     ensures { λ r. ⌜ r ≡ cent x 1 ⌝ }

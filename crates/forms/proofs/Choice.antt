@@ -34,8 +34,8 @@ eq-not a b e = rw (eq-eqb a b e)
 pub ne-not : (a b : ℕ) → (a ≡ b → ⊥) → not (eqb a b) ≡ true
 ne-not a b e = rw (ne-eqb a b e)
 
-pub not-eq : (a b : ℕ) → not (eqb a b) ≡ false → a ≡ b
-not-eq a b e = eqb-true a b (not-false (eqb a b) e)
+pub eq-of-not : (a b : ℕ) → not (eqb a b) ≡ false → a ≡ b
+eq-of-not a b e = eqb-true a b (not-false (eqb a b) e)
 
 -- a fact about numbers as the test that says it
 pub ruleset compared = (lt-ltb, le-ltb, le-leb, lt-leb, eq-eqb, ne-eqb, eq-not, ne-not)

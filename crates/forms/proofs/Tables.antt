@@ -8,7 +8,7 @@ use native.Mathlib.Nat.{le-of-suc-le-suc, not-suc-le-zero, mul-suc}
 use native.Mathlib.Omega.{arith}
 use lib.ListN.{length, getD, List·getD-append}
 use lib.Seq.{getD-append-add}
-use Rattle.forms.proofs.Choice.{if-yes}
+use Rattle.forms.proofs.Choice.{all-head, all-tail}
 use Rattle.forms.specs.Tables.{entry, Columns, every}
 
 -- of a table of w columns, the entry of row i and column j stands at w * i + j of the array
@@ -24,17 +24,10 @@ flat-entry w (row ∷ rows) c (suc i) j h k =
     let at : w * suc i + j ≡ length row + (w * i + j) = omega (arith, mul-suc w i, c .0) in
     rw at (getD-append-add row (flatten rows) (w * i + j) 0 ∙ flat-entry w rows (c .1) i j (le-of-suc-le-suc h) k)
 
-every-head : {A : Type 0} (right : A → Bool) (row : A) (rows : List A) → every right (row ∷ rows) ≡ true → right row ≡ true
-unfolding every
-every-head right row rows e = if-yes (right row) (every right rows) e .0
-
-every-tail : {A : Type 0} (right : A → Bool) (row : A) (rows : List A) → every right (row ∷ rows) ≡ true → every right rows ≡ true
-unfolding every
-every-tail right row rows e = if-yes (right row) (every right rows) e .1
-
 -- a test that holds of every row holds of each
 pub each : {A : Type 0} (right : A → Bool) (rows : List A) (d : A) → every right rows ≡ true
     → (i : ℕ) → i < length rows → right (getD rows i d) ≡ true
+unfolding every
 each right [] d e i h = absurd (not-suc-le-zero h)
-each right (row ∷ rows) d e zero h = every-head right row rows e
-each right (row ∷ rows) d e (suc i) h = each right rows d (every-tail right row rows e) i (le-of-suc-le-suc h)
+each right (row ∷ rows) d e zero h = all-head _ _ e
+each right (row ∷ rows) d e (suc i) h = each right rows d (all-tail _ _ e) i (le-of-suc-le-suc h)

@@ -7,26 +7,22 @@ use mathlib.Core.Path.{_≡_}
 use lib.Dec.{eqb}
 use Rattle.forms.specs.Choice.{if_then_else_}
 
-infix 80 _⇒_
+-- a number, and the test for which it is given
+infix 80 _when_
 pub data Check : Type 0 where
-  _⇒_ : Bool → ℕ → Check
-
--- a list of checks is written  n when test │ m when test │ []
-infixr 4 _when_│_
-abbrev pub _when_│_ : ℕ → Bool → List Check → List Check
-n when b │ cs = (b ⇒ n) ∷ cs
+  _when_ : ℕ → Bool → Check
 
 -- the number of the first check that applies, 0 where none does
 unfoldable pub first : List Check → ℕ
 first [] = 0
-first ((b ⇒ n) ∷ cs) = if b then n else first cs
+first (n when b ∷ cs) = if b then n else first cs
 
 -- no check of the list applies
 abbrev pub Passed : List Check → Type 0
 Passed [] = Unit {0}
-Passed ((b ⇒ n) ∷ cs) = (b ≡ false) × Passed cs
+Passed (n when b ∷ cs) = (b ≡ false) × Passed cs
 
 -- no check of the list gives 0 when it applies
 abbrev pub refusing : List Check → Bool
 refusing [] = true
-refusing ((b ⇒ n) ∷ cs) = not (eqb n 0) && refusing cs
+refusing (n when b ∷ cs) = not (eqb n 0) && refusing cs

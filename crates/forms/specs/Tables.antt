@@ -1,13 +1,13 @@
 -- Tables: of numbers by row and column, and of rows that are all to hold.
 -- Assumes nothing.
 use Prim.Native.Nat.{ℕ}
-use mathlib.Core.Bool.{Bool, true, false}
-use mathlib.Core.List.{List, [], _∷_}
+use mathlib.Core.Bool.{Bool}
+use mathlib.Core.List.{List, [], _∷_, map}
 use mathlib.Core.Path.{_≡_}
 use lib.ListN.{length, getD}
-use Rattle.forms.specs.Choice.{if_then_else_}
+use Rattle.forms.specs.Choice.{allOf}
 
--- the entry in a row and a column, each counted from 0
+-- the entry in a row and a column, each counted from 0; 0 outside the table
 abbrev pub entry : List (List ℕ) → ℕ → ℕ → ℕ
 entry table row column = getD (getD table row []) column 0
 
@@ -18,5 +18,4 @@ Columns n (row ∷ rows) = (length row ≡ n) × Columns n rows
 
 -- the test holds of every row
 unfoldable pub every : {A : Type 0} → (A → Bool) → List A → Bool
-every right [] = true
-every right (row ∷ rows) = if right row then every right rows else false
+every right rows = allOf (map right rows)

@@ -1,6 +1,6 @@
 use borrow.Author.Needs.{needs}
 use borrow.Author.Tests.{eq-eqb, ne-eqb}
-use mathlib.Core.Path.{_≡_, _∙_, sym}
+use mathlib.Core.Path.{_≡_, _∙_}
 use Prim.Native.Nat.{ℕ, _+_, _-_, _*_}
 use Rattle.forms.proofs.Choice.{if-true, if-false}
 use Rattle.band.specs.Band.{spreadOf, cent, bandsOf, lowerOf, upperOf}

@@ -30,7 +30,7 @@ mul-if2 : tie.Need-mul-if2
 mul-if2 c = let a = c .before .args in omega (arith, mod-lt (a .sum) {m = a .count} (omega arith))
 
 -- a divisor of at least 2 halves the sum; 1 leaves no rest
-room : (s c : ℕ) → s < 18_446_744_073_709_551_616 → (c ≡ 0 → ⊥) → c ≤ 2 * (s % c) → s / c + 1 < 18_446_744_073_709_551_616
+room : (s c : ℕ) → s < 18_446_744_073_709_551_616 → (c ≡ 0 → ⊥) → 1 ≤ s % c → s / c + 1 < 18_446_744_073_709_551_616
 room s c f z h =
     let e = div-add-mod' s c in
     let l : s % c < c = mod-lt s (omega arith) in
