@@ -1,7 +1,7 @@
 use borrow.Author.Needs.{needs}
 use mathlib.Core.Path.{_≡_, ap₂}
 use native.Mathlib.Omega.{arith}
-use Prim.Native.Nat.{ℕ, _+_, _-_, _*_}
+use Prim.Native.Nat.{ℕ, _+_, _-_, _*_, _≤_, _<_}
 use lib.Dec.{leb}
 use Rattle.band.specs.Band.{distance, movesOf}
 use Rattle.band.proofs.moves.Statement.{statement}
@@ -15,11 +15,13 @@ whole m r off e =
     let by : 100 * off ≡ 100 * ((m * 1 - r * 1) + (r * 1 - m * 1)) = omega arith in
     ap₂ leb one by
 
-returns : tie.Need-returns
-returns c = let a = c .before .args in whole (a .mean) (a .reference) (a .reference - a .mean) (omega arith)
+below : (m r : ℕ) → m < r → leb r (100 * (r - m)) ≡ movesOf m 1 r 1
+below m r h = whole m r (r - m) (omega arith)
 
-returns-2 : tie.Need-returns-2
-returns-2 c = let a = c .before .args in whole (a .mean) (a .reference) (a .mean - a .reference) (omega arith)
+above : (m r : ℕ) → r ≤ m → leb r (100 * (m - r)) ≡ movesOf m 1 r 1
+above m r h = whole m r (m - r) (omega arith)
 
 pub moves-spec : {M : Type 1} → statement M
-moves-spec = tie.close (tie.spec (λ c. search needs) (λ c. search needs) returns (λ c. search needs) returns-2)
+moves-spec =
+    tie.close
+    (tie.spec (λ c. search needs) (λ c. search needs) (λ c. search below) (λ c. search needs) (λ c. search above))
