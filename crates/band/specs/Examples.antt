@@ -36,8 +36,8 @@ byHand =
     bands 1_000 1 small 1 300 1_800 ∷
     bands 1_000 1 small 2 0 2_500 ∷
     bands 28 1 small 1 0 100 ∷
-    -- B8, in both tiers
-    percent 1 7_499 small ∷
+    -- B8, in both tiers; the small rule is percent 0
+    percent 1 7_499 0 ∷
     percent 1 7_500 20 ∷
     percent 2 7_499 small ∷
     percent 2 7_500 20 ∷
@@ -46,13 +46,18 @@ byHand =
     percent 1 30_001 5 ∷
     percent 2 30_000 20 ∷
     percent 2 30_001 10 ∷
-    -- B11
+    -- B11, a half that goes up, less than a half that goes, and no price
     mean (1 + 2) 2 2 ∷
+    mean 10 4 3 ∷
+    mean 9 4 2 ∷
+    mean 0 0 0 ∷
     -- doubled until 9:45 and from 15:35, on a day that ends at 16:00
     factor 1 899_999 23_400_000 2 ∷
     factor 1 900_000 23_400_000 1 ∷
     factor 3 21_899_999 23_400_000 3 ∷
     factor 3 21_900_000 23_400_000 6 ∷
+    -- a leverage that there is not
+    factor 4 0 23_400_000 0 ∷
     -- the test, from above and from below: one percent is enough
     stays 100_999 1 100_000 1 ∷
     changes 101_000 1 100_000 1 ∷
@@ -67,4 +72,7 @@ byHand =
     bands 201_999 2 10 1 90_900 111_100 ∷
     bands 2_001 2 small 1 300 1_800 ∷
     bands 6_001 2 small 1 1_500 4_500 ∷
+    -- bands whose ends are halves of a cent, before they go up
+    bands 2_050 1 small 1 600 3_600 ∷
+    bands 2_050 1 small 2 0 5_100 ∷
     []

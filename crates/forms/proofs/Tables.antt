@@ -11,6 +11,11 @@ use lib.Seq.{getD-append-add}
 use Rattle.forms.proofs.Choice.{all-head, all-tail}
 use Rattle.forms.specs.Tables.{entry, Columns, every}
 
+-- what holds of the rows of a table, one under the other
+infixr 4 _│_
+pub _│_ : {A B : Type 0} → A → B → A × B
+a │ b = (a, b)
+
 -- of a table of w columns, the entry of row i and column j stands at w * i + j of the array
 pub flat-entry : (w : ℕ) (table : List (List ℕ)) → Columns w table → (i j : ℕ) → i < length table → j < w
     → getD (flatten table) (w * i + j) 0 ≡ entry table i j

@@ -1,0 +1,255 @@
+-- The held trades are those of the last 300,000 since the last opening.
+-- Assumes nothing.
+use Prim.Native.Nat.{ℕ, _+_, _≤_, _<_}
+use mathlib.Core.Bool.{Bool, true, false, true≢false}
+use mathlib.Core.List.{List, [], _∷_, _++_, foldl}
+use mathlib.Core.Logic.{_⊎_, inl, inr}
+use mathlib.Core.Path.{_≡_, refl, sym, ap, _∙_}
+use native.Mathlib.Omega.{arith}
+use borrow.Author.Tests.{leb-true, ltb-true, ltb-false, eqb-true, eqb-false, lt-ltb, le-ltb, le-leb}
+use lib.Dec.{lit≤, leb, ltb, eqb}
+use lib.ListN.{length}
+use Rattle.forms.specs.Choice.{if_then_else_, allOf, anyOf}
+use Rattle.forms.proofs.Choice.{if-true, if-false, if-arms, all-head, all-tail, all-yes, all-empty, any-head, any-tail, ne-not}
+use Rattle.rules.specs.Stock.{hold-ended, Trade, Whole, stateOf, clockOf, oldest, figuresOf, staying}
+use Rattle.rules.specs.States.{begin-pause}
+use Rattle.rules.specs.Moments.{mark-v, momentTable, next, dueBy, effect, windowAfter, come}
+use Rattle.rules.specs.Messages.{kind, timeOf, taken, does, after}
+use Rattle.rules.specs.Numbers.{Seen, badTrade, see, badTrades, rubbish, tells, settles, fresh}
+use Rattle.rules.specs.Machine.{message, moment, Lawful, left}
+use Rattle.rules.specs.Book.{nextOf, fire, notice, machine, Story}
+use Rattle.rules.specs.Readings.{joins, joined, recent}
+use Rattle.rules.specs.Demands.{leaves, HeldTrades}
+use Rattle.rules.specs.declared.Stock.{Stock}
+use Rattle.rules.specs.declared.Figures.{Figures}
+use Rattle.rules.specs.declared.Moment.{Moment}
+use Rattle.rules.specs.declared.Message.{Message}
+use Rattle.rules.specs.declared.Message.the-variants.{Trade as T, Quote as Q, Opening as O, Pause as P, Reopening as R, Closing as X}
+use Rattle.rules.proofs.Earliest.{IsMoment, one-of, none-before}
+use Rattle.rules.proofs.Passed.{told, settled, idle}
+use Rattle.rules.proofs.Lawful.{when-due, when-not, machineLaws}
+use Rattle.rules.proofs.Kept.{Stands, look-stands, trading-stands, test-stands, five-stands, trade-stands, quote-stands}
+use Rattle.rules.proofs.Last.{closing, effect-open}
+use Rattle.rules.proofs.Sound.{IsPrice, InOrder, is-price}
+use Rattle.rules.proofs.Timely.{mark-rows}
+
+-- ------------------------------------------------------------------ a window that check 1 lets pass
+
+if-no : (a b : Bool) → (if a then true else b) ≡ false → (a ≡ false) × (b ≡ false)
+unfolding if_then_else_
+if-no true b e = absurd (true≢false e)
+if-no false b e = (refl, e)
+
+follows : (clock last : ℕ) (t : Trade) → badTrade clock last t ≡ false → IsPrice (t .price) × (last ≤ t .at) × (t .at ≤ clock)
+unfolding badTrade
+follows clock last t e =
+    let rest = any-tail _ _ e in
+    (is-price (t .price) (any-head _ _ e), ltb-false (t .at) last (any-head _ _ (any-tail _ _ rest)), ltb-false clock (t .at) (any-head _ _ rest))
+
+seen-in-order : (clock : ℕ) (s : Seen) (w : List Trade) → foldl (see clock) s w .bad ≡ false → (s .bad ≡ false) × InOrder (s .last) clock w
+unfolding see
+seen-in-order clock s [] e = (e, tt)
+seen-in-order clock s (t ∷ ts) e =
+    let rest = seen-in-order clock (see clock s t) ts e in
+    let here = if-no (s .bad) _ (rest .0) in
+    let t-follows = follows clock (s .last) t (here .1) in
+    (here .0, (t-follows .0, t-follows .1, t-follows .2, rest .1))
+
+window-in-order : (h : Whole) → rubbish h ≡ false → InOrder 0 (clockOf (h .stock)) (h .window)
+unfolding rubbish badTrades
+window-in-order h e = seen-in-order _ _ (h .window) (any-head _ _ (any-tail _ _ (any-tail _ _ (any-tail _ _ (any-tail _ _ (any-tail _ _
+    (any-tail _ _ (any-tail _ _ (any-tail _ _ e))))))))) .1
+
+-- ------------------------------------------------------------------ recent trades
+
+recent-snoc : (time : ℕ) (a : Trade) (l : List Trade) → time < a .at + 300_000 → recent time (l ++ (a ∷ [])) ≡ recent time l ++ (a ∷ [])
+unfolding recent if_then_else_
+recent-snoc time a [] h = rw (lt-ltb time (a .at + 300_000) h)
+recent-snoc time a (b ∷ l) h = go (recent-snoc time a l h) (ltb time (b .at + 300_000))
+  where
+    go : recent time (l ++ (a ∷ [])) ≡ recent time l ++ (a ∷ []) → (c : Bool)
+        → (if c then b ∷ recent time (l ++ (a ∷ [])) else recent time (l ++ (a ∷ []))) ≡ (if c then b ∷ recent time l else recent time l) ++ (a ∷ [])
+    go ih true = ap (λ z. b ∷ z) ih
+    go ih false = ih
+
+recent-twice : (c d : ℕ) → c ≤ d → (l : List Trade) → recent d (recent c l) ≡ recent d l
+unfolding recent
+recent-twice c d h [] = refl
+recent-twice c d h (a ∷ l) =
+    let ih = recent-twice c d h l in
+    if-arms (λ z. recent d z ≡ recent d (a ∷ l)) (ltb c (a .at + 300_000))
+    (λ _. ap (λ z. if ltb d (a .at + 300_000) then a ∷ z else z) ih)
+    (λ e. ih ∙ sym (if-false _ _ _ (le-ltb d (a .at + 300_000) (omega (arith, ltb-false c (a .at + 300_000) e)))))
+
+module _ (time clock : ℕ) where
+  recent-all : (last : ℕ) (l : List Trade) → InOrder last clock l → time < last + 300_000 → recent time l ≡ l
+  unfolding recent
+  recent-all last [] o h = refl
+  recent-all last (a ∷ l) o h =
+      let k : time < a .at + 300_000 = omega (arith, o .1) in
+      if-true _ _ _ (lt-ltb time (a .at + 300_000) k) ∙ ap (λ z. a ∷ z) (recent-all (a .at) l (o .3) k)
+
+  -- of trades in order those that have left are the first ones
+  staying-recent : (last : ℕ) (l : List Trade) → InOrder last clock l → staying time l ≡ recent time l
+  unfolding staying recent if_then_else_
+  staying-recent last [] o = refl
+  staying-recent last (a ∷ l) o = go (staying-recent (a .at) l (o .3)) (ltb time (a .at + 300_000)) refl
+    where
+      go : staying time l ≡ recent time l → (b : Bool) → ltb time (a .at + 300_000) ≡ b
+          → (if b then a ∷ l else staying time l) ≡ (if b then a ∷ recent time l else recent time l)
+      go ih true e = ap (λ z. a ∷ z) (sym (recent-all (a .at) l (o .3) (ltb-true time (a .at + 300_000) e)))
+      go ih false e = ih
+
+-- ------------------------------------------------------------------ a stock to which something happens is not closed
+
+abbrev Low : Stock → Type 0
+Low s = stateOf s ≤ 4
+
+told-low : (m : Message) (h : Whole) → tells m h ≡ 0 → Low (h .stock)
+unfolding rubbish taken if_then_else_
+told-low m h e = go (eqb (stateOf (h .stock)) 5) refl
+  where
+    shut-takes : (m : Message) → taken (kind m) 5 ≡ 0 → ⊥
+    shut-takes (T t a) z = omega arith
+    shut-takes (Q t i b o) z = omega arith
+    shut-takes (O t i a) z = omega arith
+    shut-takes (P t i) z = omega arith
+    shut-takes (R t i a) z = omega arith
+    shut-takes (X t i a) z = omega arith
+
+    go : (b : Bool) → eqb (stateOf (h .stock)) 5 ≡ b → Low (h .stock)
+    go true p = absurd (shut-takes m (rw (eqb-true (stateOf (h .stock)) 5 p) at (told m h e .state-takes)))
+    go false p = omega (arith, ltb-false 5 (stateOf (h .stock)) (any-head _ _ (told m h e .sound)), eqb-false (stateOf (h .stock)) 5 p)
+
+-- tests that all hold, as facts for omega
+head-leb : (a b : ℕ) (bs : List Bool) → allOf (leb a b ∷ bs) ≡ true → a ≤ b
+head-leb a b bs e = leb-true a b (all-head _ bs e)
+
+head-eqb : (a b : ℕ) (bs : List Bool) → allOf (eqb a b ∷ bs) ≡ true → a ≡ b
+head-eqb a b bs e = eqb-true a b (all-head _ bs e)
+
+between : (a n b : ℕ) (bs : List Bool) → allOf (leb a n ∷ leb n b ∷ bs) ≡ true → n ≤ b
+between a n b bs e = head-leb n b bs (all-tail _ _ e)
+
+moment-low : (h : Whole) → IsMoment (nextOf h) → Low (h .stock)
+unfolding next momentTable
+moment-low h is =
+    one-of (λ _. Low (h .stock)) (momentTable (figuresOf (h .window)) (h .stock)) (omega (arith, leb-true, eqb-true, between, head-leb, head-eqb)) is
+
+-- ------------------------------------------------------------------ and is not closed after it, or its window is emptied
+
+stands-low : Stands Low
+stands-low = record { in-limit = λ s l. lit≤ tt; referred = λ r s l. l; in-trading = λ r s l. lit≤ tt }
+
+pause-low : (s : Stock) → Low (begin-pause s)
+unfolding begin-pause
+pause-low s = if-arms (λ n. n ≤ 4) _ (λ _. lit≤ tt) (λ _. lit≤ tt)
+
+effect-low : (mark : ℕ) (f : Figures) (s : Stock) → closing mark ≡ false → Low s → Low (effect mark f s)
+effect-low mark f s e l =
+    effect-open Low mark f s e (look-stands stands-low s l) (pause-low s) (trading-stands stands-low _ s l) (test-stands stands-low f s l)
+    (five-stands stands-low f s l) (test-stands stands-low f (hold-ended s) l)
+
+does-low : (m : Message) (h : Whole) → Low (h .stock) → Low (does m h .stock) ⊎ (does m h .window ≡ [])
+unfolding does
+does-low (T t a) h l = inl (trade-stands stands-low _ _ l)
+does-low (Q t i b o) h l = inl (quote-stands stands-low _ _ l)
+does-low (O t i a) h l = inl (trading-stands stands-low a _ l)
+does-low (P t i) h l = inl (pause-low _)
+does-low (R t i a) h l = inl (trading-stands stands-low a _ l)
+does-low (X t i a) h l = inr refl
+
+-- ------------------------------------------------------------------ the window and the trades that have joined
+
+-- the window is the trades of `l` that were recent at a time not after the clock, and a closed stock has none
+record Holds (h : Whole) (l : List Trade) : Type 0 where
+  cut : ℕ
+  cut-by : cut ≤ clockOf (h .stock)
+  held : h .window ≡ recent cut l
+  live : Low (h .stock) ⊎ (h .window ≡ [])
+
+message-holds : (m : Message) (h : Whole) (l : List Trade) → Holds h l → tells m h ≡ 0 → Holds (after m h) (joins l (message m))
+unfolding after does recent
+message-holds m h l i e =
+    let r = go m (told m h e .not-back) in
+    record { cut = r .0; cut-by = omega (arith, machineLaws .at-message m h, r .1); held = r .2; live = does-low m _ (told-low m h e) }
+  where
+    go : (m : Message) → clockOf (h .stock) ≤ timeOf m
+        → (c : ℕ) × (c ≤ timeOf m) × (after m h .window ≡ recent c (joins l (message m)))
+    go (T t a) k = (
+      i .cut,
+      omega (arith, i .cut-by),
+      ap (λ w. w ++ (record { at = t; price = a } ∷ [])) (i .held)
+          ∙ sym (recent-snoc (i .cut) _ l (omega (arith, i .cut-by))),
+    )
+    go (Q t j b o) k = (i .cut, omega (arith, i .cut-by), i .held)
+    go (O t j a) k = (t, omega arith, sym (if-true _ _ _ (lt-ltb t (t + 300_000) (omega arith))))
+    go (P t j) k = (i .cut, omega (arith, i .cut-by), i .held)
+    go (R t j a) k = (t, omega arith, sym (if-true _ _ _ (lt-ltb t (t + 300_000) (omega arith))))
+    go (X t j a) k = (t, omega arith, refl)
+
+moment-window : (m : Moment) (clock cut : ℕ) (w l : List Trade) → InOrder 0 clock w → cut ≤ m .time → w ≡ recent cut l
+    → (d : ℕ) × (d ≤ m .time) × (windowAfter m w ≡ recent d (if closing (m .mark) then [] else l))
+unfolding windowAfter recent if_then_else_ anyOf
+moment-window m clock cut w l o by held = go (eqb (m .mark) mark-v) refl (closing (m .mark)) refl
+  where
+    go : (v : Bool) → eqb (m .mark) mark-v ≡ v → (c : Bool) → closing (m .mark) ≡ c
+        → (d : ℕ) × (d ≤ m .time) × ((if v then staying (m .time) w else if c then [] else w) ≡ recent d (if c then [] else l))
+    go true p true q = absurd (true≢false (sym q ∙ rw (eqb-true (m .mark) mark-v p)))
+    go true p false q =
+        (m .time, omega arith, staying-recent (m .time) clock 0 w o ∙ (ap (recent (m .time)) held ∙ recent-twice cut (m .time) by l))
+    go false p true q = (m .time, omega arith, refl)
+    go false p false q = (cut, by, held)
+
+moment-holds : (t : ℕ) (h : Whole) (l : List Trade) → Holds h l → settles t h ≡ 0 → Holds (fire h) (joins l (moment (notice h)))
+unfolding fire come notice recent if_then_else_
+moment-holds t h l i e =
+    let k = machineLaws .forward t h e in
+    let r = moment-window (nextOf h) _ (i .cut) (h .window) l (window-in-order h (settled t h e .sound)) (omega (arith, i .cut-by)) (i .held) in
+    record {
+      cut = r .0;
+      cut-by = omega (arith, machineLaws .at-moment h, r .1);
+      held = r .2;
+      live = live (r .0) (r .2) (closing (nextOf h .mark)) refl;
+    }
+  where
+    live : (d : ℕ) → fire h .window ≡ recent d (if closing (nextOf h .mark) then [] else l)
+        → (c : Bool) → closing (nextOf h .mark) ≡ c → Low (fire h .stock) ⊎ (fire h .window ≡ [])
+    live d w true q = inr (w ∙ rw q)
+    live d w false q = inl (effect-low _ _ _ q (moment-low h (when-due t (nextOf h) (settled t h e .due) .0)))
+
+left-holds : (es : Story) (h : Whole) (l : List Trade) → Holds h l → Lawful machine h es → Holds (left machine h es) (joined l es)
+left-holds [] h l i v = i
+left-holds (message m ∷ es) h l i v = left-holds es (after m h) (joins l (message m)) (message-holds m h l i (v .0)) (v .1)
+left-holds (moment n ∷ es) h l i v =
+    left-holds es (fire h) (joins l (moment n)) (rw (v .1) (moment-holds (v .0 .0) h l i (v .0 .1))) (v .2)
+
+-- ------------------------------------------------------------------ nothing due: no trade of the window has left
+
+oldest-stays : (time : ℕ) (s : Stock) (a : Trade) (w : List Trade) → Low s → dueBy time (next (figuresOf (a ∷ w)) s) ≡ false → time < a .at + 300_000
+unfolding next momentTable figuresOf oldest
+oldest-stays time s a w l e =
+    let f : Figures = figuresOf (a ∷ w) in
+    let k = none-before (momentTable f s) (mark-rows f s) .1 .1 .1 .1 .1 .1 .0
+    (all-yes _ _ (le-leb (stateOf s) 4 l) (all-yes _ _ (ne-not (length (a ∷ w)) 0 (omega arith)) all-empty)) in
+    omega (arith, when-not time (next f s) e (k .0), k .1)
+
+idle-stays : (time : ℕ) (s : Stock) (w : List Trade) → Low s → dueBy time (next (figuresOf w) s) ≡ false → staying time w ≡ w
+unfolding staying
+idle-stays time s [] l e = refl
+idle-stays time s (a ∷ w) l e = if-true _ _ _ (lt-ltb time (a .at + 300_000) (oldest-stays time s a w l e))
+
+pub held-trades : HeldTrades
+unfolding fresh recent
+held-trades end u es a time e c =
+    let i = left-holds es (fresh end u) [] (record { cut = 0; cut-by = lit≤ tt; held = refl; live = inl (lit≤ tt) }) (a .lawful) in
+    sym (none-left (i .live)) ∙ (ap (recent time) (i .held) ∙ recent-twice (i .cut) time (omega (arith, i .cut-by)) (joined [] es))
+  where
+    h : Whole
+    h = leaves end u es
+
+    none-left : Low (h .stock) ⊎ (h .window ≡ []) → recent time (h .window) ≡ h .window
+    none-left (inl l) =
+        sym (staying-recent time _ 0 (h .window) (window-in-order h (idle time h e .sound)))
+        ∙ idle-stays time (h .stock) (h .window) l (idle time h e .none-due)
+    none-left (inr p) = rw p

@@ -1,0 +1,226 @@
+-- What is demanded of the rules. Open this file first: it collects the statements, and proofs/Demands.antt proves the record.
+--
+-- `Allowed end u es` says that es is a story of one stock: the messages that were accepted and the moments that were settled since a
+-- setup in range, in a row that the rules allow. `leaves end u es` is the stock that it leaves. The first demand ties both to a book.
+-- Assumes nothing.
+use Prim.Native.Nat.{ℕ, _+_, _≤_, _<_}
+use mathlib.Core.Bool.{true, false}
+use mathlib.Core.List.{List, [], _∷_, _++_}
+use mathlib.Core.Logic.{_↔_, _⊎_}
+use mathlib.Core.Path.{_≡_}
+use lib.ListN.{length, getD}
+use Rattle.forms.specs.Checks.{Passed}
+use Rattle.forms.specs.Tables.{every}
+use Rattle.band.specs.Band.{percentOf, factorOf, bandsOf}
+use Rattle.band.specs.declared.Limits.{Limits}
+use Rattle.rules.specs.Stock.{Whole, Trading, Limit, Paused, Late, Closed, stateOf, clockOf, at-time}
+use Rattle.rules.specs.Quotes.{inForce, bandsIn, atLimit}
+use Rattle.rules.specs.Moments.{mark-p, mark-f}
+use Rattle.rules.specs.Messages.{taken, with-quote}
+use Rattle.rules.specs.Numbers.{badEnd, badSetup, rubbish, checks, tells, settleChecks, settles, settleAnswer, fresh}
+use Rattle.rules.specs.Machine.{Call, On, Event, message, moment, messages, notices, Lawful, becomes, left, Calls, stock, numberIn, stepIn}
+use Rattle.rules.specs.Book.{machine, Story, Accepted, noSetup, blank, now, story, Settled}
+use Rattle.rules.specs.Readings.{joined, recent, lastQuote, IsOneOf, IsBest, Starts, Refers, inWords, letterOf, leadsTo, markOf, IsDated, lastDate, Leaves, countOf, Moments}
+use Rattle.rules.specs.Pauses.{before, PauseAt, LimitSince}
+use Rattle.rules.specs.Examples.{right, byHand, asPrinted, days, asRefused, edges}
+use Rattle.rules.specs.declared.Setup.{Setup}
+use Rattle.rules.specs.declared.Stock.{Stock}
+use Rattle.rules.specs.declared.Notice.{Notice}
+use Rattle.rules.specs.declared.Message.{Message}
+use Rattle.rules.specs.declared.Message.the-variants.{Trade as T, Quote as Q, Reopening as R}
+
+pub record Allowed (end : ℕ) (u : Setup) (es : Story) : Type 0 where
+  pub end-ok : badEnd end ≡ false
+  pub setup-ok : badSetup u ≡ false
+  pub lawful : Lawful machine (fresh end u) es
+
+abbrev pub leaves : ℕ → Setup → Story → Whole
+leaves end u es = left machine (fresh end u) es
+
+-- an event that the rules allow next
+abbrev pub Next : Whole → Event Message Notice → Type 0
+Next h e = Lawful machine h (e ∷ [])
+
+-- ---------------------------------------------------------------- a book and its stocks
+
+-- After an accepted setup and any calls, each stock is what its own story leaves, and the rules allow that story.
+abbrev pub ByStory : Type 0
+ByStory = (end : ℕ) (us : List Setup) → Accepted end us → (cs : Calls machine) (i : ℕ) → i < length us
+    → Allowed end (getD us i noSetup) (story end us cs i)
+    × (now end us cs i ≡ leaves end (getD us i noSetup) (story end us cs i))
+
+-- A refused call changes nothing, and an accepted one nothing but the stock that it names.
+abbrev pub Refused : Type 0
+Refused = (end : ℕ) (b : List Whole) (c : On (Call Message)) → (numberIn machine (blank end) b c ≡ 0 → ⊥)
+    → stepIn machine (blank end) b c ≡ b
+
+abbrev pub OthersStay : Type 0
+OthersStay = (end : ℕ) (b : List Whole) (c : On (Call Message)) (i : ℕ) → (i ≡ c .at → ⊥)
+    → stock machine (blank end) (stepIn machine (blank end) b c) i ≡ stock machine (blank end) b i
+
+-- No call ever makes rubbish.
+abbrev pub NeverRubbish : Type 0
+NeverRubbish = (end : ℕ) (u : Setup) (es : Story) → Allowed end u es → rubbish (leaves end u es) ≡ false
+
+-- The same messages to each stock, both books settled to one time and not beyond: equal stocks and equal dated notices.
+abbrev pub SettledAlike : Type 0
+SettledAlike = (end : ℕ) (us : List Setup) (cs ds : Calls machine) (time : ℕ) → Settled end time us cs → Settled end time us ds
+    → ((i : ℕ) → messages (story end us cs i) ≡ messages (story end us ds i))
+    → (i : ℕ) → i < length us
+    → (now end us cs i ≡ now end us ds i) × (notices (story end us cs i) ≡ notices (story end us ds i))
+
+-- Settling to a time in range does a moment or finds none, and fewer than 2,000 moments happen in a row: so it ends.
+abbrev pub Settling : Type 0
+Settling = (end : ℕ) (u : Setup) (es : Story) → Allowed end u es → (time : ℕ) → time ≤ end + 300_000
+    → (settles time (leaves end u es) ≡ 0) ⊎ (settles time (leaves end u es) ≡ 14)
+
+abbrev pub FewMoments : Type 0
+FewMoments = (end : ℕ) (u : Setup) (es ns : Story) → Allowed end u (es ++ ns) → Moments ns → length ns < 2_000
+
+-- ---------------------------------------------------------------- a stock, read off its story
+
+-- The clock is the date of the last event; the setup and the session's end are those of the beginning.
+abbrev pub ClockIs : Type 0
+ClockIs = (end : ℕ) (u : Setup) (es : Story) → Allowed end u es
+    → (clockOf (leaves end u es .stock) ≡ lastDate 0 es) × (leaves end u es .stock .setup ≡ u) × (leaves end u es .stock .end ≡ end)
+
+-- Settled to a time, the held trades are those of the last 300,000 since the last opening.
+abbrev pub HeldTrades : Type 0
+HeldTrades = (end : ℕ) (u : Setup) (es : Story) → Allowed end u es
+    → (time : ℕ) → settles time (leaves end u es) ≡ 14 → clockOf (leaves end u es .stock) ≤ time
+    → leaves end u es .window ≡ recent time (joined [] es)
+
+-- Each quote is the participant's last, and 0 before its first.
+abbrev pub LastQuotes : Type 0
+LastQuotes = (end : ℕ) (u : Setup) (es : Story) → Allowed end u es → (i : ℕ) → i ≤ 15
+    → let q = leaves end u es .stock .quotes in
+    (getD (q .bids) i 0 ≡ lastQuote i (0, 0) es .0) × (getD (q .offers) i 0 ≡ lastQuote i (0, 0) es .1)
+
+-- The reference is the price of the last opening, or the mean of the window at its start, or the one before started again.
+abbrev pub ReferenceIs : Type 0
+ReferenceIs = (h : Whole) (e : Event Message Notice) → Next h e → Refers h e (becomes machine h e)
+
+-- The bands are those of the reference, the close and the k of now; in Limit, of the k of its entry.
+abbrev pub BandsAre : Type 0
+BandsAre = (end : ℕ) (u : Setup) (es : Story) → Allowed end u es
+    → let s = leaves end u es .stock in
+    let at : ℕ → Limits = λ time. bandsOf (s .reference .price) 1 (percentOf (u .tier) (u .close)) (factorOf (u .leverage) time end) in
+    (stateOf s ≡ Trading → bandsIn s ≡ at (lastDate 0 es))
+    × (stateOf s ≡ Limit → (entered : ℕ) × LimitSince entered (fresh end u) es × (bandsIn s ≡ at entered))
+
+-- The best bid is the highest bid that counts, the best offer the lowest offer that counts, and their flags say where they stand.
+abbrev pub BestQuotes : Type 0
+BestQuotes = (s : Stock) → IsBest s
+
+-- The state follows one table of event by state.
+abbrev pub StatesFollow : Type 0
+StatesFollow = (h : Whole) (e : Event Message Notice) → Next h e
+    → IsOneOf (stateOf (becomes machine h e .stock)) (leadsTo (letterOf e) (stateOf (h .stock)))
+
+-- A moment is dated by the rules, and its notice is the same whatever time the call named.
+abbrev pub DatesAre : Type 0
+DatesAre = (h : Whole) (n : Notice) → Next h (moment n) → IsDated n h
+
+abbrev pub SameNotice : Type 0
+SameNotice = (h : Whole) (t t′ : ℕ) → settles t h ≡ 0 → settles t′ h ≡ 0 → settleAnswer t h ≡ settleAnswer t′ h
+
+-- ---------------------------------------------------------------- messages, trades and pauses
+
+-- A message is accepted exactly where none of its checks applies, and settling does a moment exactly where none of its own does.
+abbrev pub AcceptedWhere : Type 0
+AcceptedWhere = (h : Whole) → ((m : Message) → (tells m h ≡ 0) ↔ Passed (checks m h)) × ((time : ℕ) → (settles time h ≡ 0) ↔ Passed (settleChecks time h))
+
+-- The table of message by state, in words.
+abbrev pub TableInWords : Type 0
+TableInWords = (kind state : ℕ) → kind < 6 → state < 6 → taken kind state ≡ inWords kind state
+
+-- No trade is accepted outside bands in force, nor in a pause.
+abbrev pub TradesInBands : Type 0
+TradesInBands = (h : Whole) (time price : ℕ) → tells (T time price) h ≡ 0
+    → (inForce (h .stock) ≡ true → (bandsIn (h .stock) .lower ≤ price) × (price ≤ bandsIn (h .stock) .upper))
+    × (stateOf (h .stock) ≤ Limit)
+
+-- A moment begins a pause at t exactly when the limit state entered 15,000 before has lasted until t, and t is before the end.
+abbrev pub PausesBegin : Type 0
+PausesBegin = (end : ℕ) (u : Setup) (es : Story) → Allowed end u es
+    → (time : ℕ) → settles time (leaves end u es) ≡ 14 → (t : ℕ) → t ≤ time
+    → PauseAt t (fresh end u) es
+    ↔ ((entered : ℕ) × (t ≡ entered + 15_000) × LimitSince entered (fresh end u) (before t es) × (t < end))
+
+-- A paused stock leaves its pause by the primary's reopening, 300,000 or more after its start, or by p, 600,000 after it.
+abbrev pub PausesEnd : Type 0
+PausesEnd = (h : Whole) (e : Event Message Notice) → Next h e → stateOf (h .stock) ≡ Paused
+    → (stateOf (becomes machine h e .stock) ≡ Paused)
+    ⊎ ((time price : ℕ) × (e ≡ message (R time (h .stock .setup .primary) price)) × (h .stock .course .pause + 300_000 ≤ time))
+    ⊎ ((n : Notice) × (e ≡ moment n) × (markOf n ≡ mark-p) × (n .moment .time ≡ h .stock .course .pause + 600_000))
+
+-- A Late pause never trades again.
+abbrev pub NeverAgain : Type 0
+NeverAgain = (h : Whole) (es : Story) → Lawful machine h es → stateOf (h .stock) ≡ Late
+    → (stateOf (left machine h es .stock) ≡ Late) ⊎ (stateOf (left machine h es .stock) ≡ Closed)
+
+-- ---------------------------------------------------------------- Limit and the first five minutes
+
+-- Within a stay in Limit no event changes the reference, its start, or a band.
+abbrev pub LimitHolds : Type 0
+LimitHolds = (h : Whole) (e : Event Message Notice) → Next h e → stateOf (h .stock) ≡ Limit → (Leaves e h → ⊥)
+    → let s′ = becomes machine h e .stock in
+    stateOf s′ ≡ Limit
+    → (s′ .reference .price ≡ h .stock .reference .price) × (s′ .reference .start ≡ h .stock .reference .start) × (bandsIn s′ ≡ bandsIn (h .stock))
+
+-- A quote leaves Limit exactly when neither side then has flag 3: the reference starts anew; and if not, only the quote changes.
+abbrev pub QuoteInLimit : Type 0
+QuoteInLimit = (h : Whole) (time participant bid offer : ℕ) → tells (Q time participant bid offer) h ≡ 0 → stateOf (h .stock) ≡ Limit
+    → let quoted = with-quote participant bid offer (at-time time (h .stock)) in
+    let h′ = becomes machine h (message (Q time participant bid offer)) in
+    (atLimit quoted ≡ true → h′ .stock ≡ quoted) × (atLimit quoted ≡ false → (price : ℕ) × Starts price h′)
+
+-- A story settled past 300,000 that was Waiting before it has exactly one f.
+abbrev pub OneF : Type 0
+OneF = (end : ℕ) (u : Setup) (es : Story) → Allowed end u es → (time : ℕ) → settles time (leaves end u es) ≡ 14 → 300_000 ≤ time
+    → stateOf (leaves end u (before 300_000 es) .stock) ≡ 0 → countOf mark-f es ≡ 1
+
+-- ---------------------------------------------------------------- examples
+
+-- B1 to B12 in one table, and days as they are printed, document 01's own first.
+abbrev pub ByHand : Type 0
+ByHand = every right byHand ≡ true
+
+abbrev pub AsPrinted : Type 0
+AsPrinted = every asPrinted days ≡ true
+
+-- Records and calls at the edges of what is refused.
+abbrev pub AsRefused : Type 0
+AsRefused = every asRefused edges ≡ true
+
+-- ------------------------------------------------------------------ all of it
+
+pub record Demands : Type 0 where
+  pub by-story : ByStory
+  pub refused : Refused
+  pub others : OthersStay
+  pub never-rubbish : NeverRubbish
+  pub settled-alike : SettledAlike
+  pub settling : Settling
+  pub few-moments : FewMoments
+  pub clock : ClockIs
+  pub held-trades : HeldTrades
+  pub last-quotes : LastQuotes
+  pub reference : ReferenceIs
+  pub bands : BandsAre
+  pub best-quotes : BestQuotes
+  pub states : StatesFollow
+  pub dates : DatesAre
+  pub same-notice : SameNotice
+  pub accepted-where : AcceptedWhere
+  pub table-in-words : TableInWords
+  pub in-bands : TradesInBands
+  pub pauses : PausesBegin
+  pub resumes : PausesEnd
+  pub never-again : NeverAgain
+  pub limit-holds : LimitHolds
+  pub quote-in-limit : QuoteInLimit
+  pub one-f : OneF
+  pub by-hand : ByHand
+  pub as-printed : AsPrinted
+  pub as-refused : AsRefused

@@ -1,0 +1,12 @@
+pub mod Demands
+pub mod Stock
+pub mod Quotes
+pub mod States
+pub mod Moments
+pub mod Messages
+pub mod Numbers
+pub mod Machine
+pub mod Book
+pub mod Readings
+pub mod Pauses
+pub mod Examples

@@ -1,0 +1,168 @@
+-- One stock as a machine, a book of such machines, and what demands 2 and 3 say of it (the mission's demands; document 01, "What the
+-- book holds"). Nothing here depends on what the rules are.
+-- Assumes nothing.
+use Prim.Native.Nat.{ℕ, _≤_, _<_}
+use mathlib.Core.List.{List, [], _∷_, _++_}
+use mathlib.Core.Path.{_≡_}
+use lib.Dec.{ltb, eqb}
+use lib.ListN.{length, getD, set}
+use Rattle.forms.specs.Choice.{if_then_else_}
+
+-- ------------------------------------------------------------------ the machine
+
+-- What one stock is, and what a call on it does.
+pub record Machine : Type 1 where
+  pub Stock : Type 0
+  pub Message : Type 0
+  pub Notice : Type 0
+  pub time : Message → ℕ
+  pub date : Notice → ℕ
+  pub clock : Stock → ℕ
+  -- a moment is still to come, and the earliest is at that time
+  pub Due : Stock → ℕ → Type 0
+  -- the number that a message, and settling to a time, is answered with: 0 is done
+  pub tells : Message → Stock → ℕ
+  pub settles : ℕ → Stock → ℕ
+  -- the stock after an accepted message, and after its earliest moment; that moment's notice
+  pub after : Message → Stock → Stock
+  pub fire : Stock → Stock
+  pub notice : Stock → Notice
+
+-- What demand 3 needs of the rules.
+pub record Laws (𝓜 : Machine) : Type 0 where
+  -- a message is accepted at the clock or later, before every moment still to come, and moves the clock to its time
+  pub not-back : (m : 𝓜 .Message) (s : 𝓜 .Stock) → 𝓜 .tells m s ≡ 0 → 𝓜 .clock s ≤ 𝓜 .time m
+  pub none-due : (m : 𝓜 .Message) (s : 𝓜 .Stock) → 𝓜 .tells m s ≡ 0 → (d : ℕ) → 𝓜 .Due s d → 𝓜 .time m < d
+  pub at-message : (m : 𝓜 .Message) (s : 𝓜 .Stock) → 𝓜 .clock (𝓜 .after m s) ≡ 𝓜 .time m
+  -- a moment is settled at its own time, not before the clock, and its notice bears that time
+  pub its-time : (t : ℕ) (s : 𝓜 .Stock) → 𝓜 .settles t s ≡ 0 → 𝓜 .Due s (𝓜 .date (𝓜 .notice s))
+  pub forward : (t : ℕ) (s : 𝓜 .Stock) → 𝓜 .settles t s ≡ 0 → 𝓜 .clock s ≤ 𝓜 .date (𝓜 .notice s)
+  pub at-moment : (s : 𝓜 .Stock) → 𝓜 .clock (𝓜 .fire s) ≡ 𝓜 .date (𝓜 .notice s)
+  -- 14 is given where nothing is due
+  pub nothing-due : (t : ℕ) (s : 𝓜 .Stock) → 𝓜 .settles t s ≡ 14 → (d : ℕ) → 𝓜 .Due s d → t < d
+
+-- ------------------------------------------------------------------ what has happened
+
+pub data Call (M : Type 0) : Type 0 where
+  tell : M → Call M
+  settle : ℕ → Call M
+
+pub data Event (M N : Type 0) : Type 0 where
+  message : M → Event M N
+  moment : N → Event M N
+
+module _ {M N : Type 0} where
+  abbrev pub messages : List (Event M N) → List M
+  messages [] = []
+  messages (message m ∷ es) = m ∷ messages es
+  messages (moment n ∷ es) = messages es
+
+  abbrev pub notices : List (Event M N) → List N
+  notices [] = []
+  notices (message m ∷ es) = notices es
+  notices (moment n ∷ es) = n ∷ notices es
+
+-- something about one stock of a book
+pub record On (A : Type 0) : Type 0 where
+  pub at : ℕ
+  pub it : A
+
+-- what is about the stock i
+unfoldable pub of : {A : Type 0} → ℕ → List (On A) → List A
+of i [] = []
+of i (x ∷ xs) = (if eqb i (x .at) then x .it ∷ [] else []) ++ of i xs
+
+abbrev pub Every : {A : Type 0} → (A → Type 0) → List A → Type 0
+Every P [] = Unit {0}
+Every P (x ∷ xs) = P x × Every P xs
+
+module _ (𝓜 : Machine) where
+  open Machine 𝓜 using (Stock, Message, Notice, time, date, clock, tells, settles, after, fire, notice)
+
+  -- ---------------------------------------------------------------- one stock
+
+  abbrev pub History : Type 0
+  History = List (Event Message Notice)
+
+  abbrev pub dated : Event Message Notice → ℕ
+  dated (message m) = time m
+  dated (moment n) = date n
+
+  -- the events that the rules allow to happen to a stock in a row
+  abbrev pub Lawful : Stock → History → Type 0
+  Lawful s [] = Unit {0}
+  Lawful s (message m ∷ es) = (tells m s ≡ 0) × Lawful (after m s) es
+  Lawful s (moment n ∷ es) = ((t : ℕ) × (settles t s ≡ 0)) × (n ≡ notice s) × Lawful (fire s) es
+
+  -- what an event, and a history, leaves of a stock
+  abbrev pub becomes : Stock → Event Message Notice → Stock
+  becomes s (message m) = after m s
+  becomes s (moment n) = fire s
+
+  abbrev pub left : Stock → History → Stock
+  left s [] = s
+  left s (e ∷ es) = left (becomes s e) es
+
+  -- ---------------------------------------------------------------- a call on one stock
+
+  abbrev pub number : Call Message → Stock → ℕ
+  number (tell m) s = tells m s
+  number (settle t) s = settles t s
+
+  abbrev pub done : Call Message → Stock → Stock
+  done (tell m) s = after m s
+  done (settle t) s = fire s
+
+  abbrev pub event : Call Message → Stock → Event Message Notice
+  event (tell m) s = message m
+  event (settle t) s = moment (notice s)
+
+  -- ---------------------------------------------------------------- a book, and calls that name a stock
+
+  abbrev pub Book : Type 0
+  Book = List Stock
+
+  abbrev pub Calls : Type 0
+  Calls = List (On (Call Message))
+
+  -- `blank` is read past the end of a book, where nothing is done
+  module _ (blank : Stock) where
+    abbrev pub stock : Book → ℕ → Stock
+    stock b i = getD b i blank
+
+    -- 3: the stock number is too large
+    unfoldable pub numberIn : Book → On (Call Message) → ℕ
+    numberIn b c = if ltb (c .at) (length b) then number (c .it) (stock b (c .at)) else 3
+
+    -- a call that is not answered 0 leaves all as it stood; the others leave every other stock so
+    unfoldable pub stepIn : Book → On (Call Message) → Book
+    stepIn b c = if eqb (numberIn b c) 0 then set b (c .at) (done (c .it) (stock b (c .at))) else b
+
+    unfoldable pub happens : Book → On (Call Message) → List (On (Event Message Notice))
+    happens b c = if eqb (numberIn b c) 0 then record { at = c .at; it = event (c .it) (stock b (c .at)) } ∷ [] else []
+
+    abbrev pub run : Book → Calls → Book
+    run b [] = b
+    run b (c ∷ cs) = run (stepIn b c) cs
+
+    -- what has happened, each with its stock, in the order of the calls
+    abbrev pub log : Book → Calls → List (On (Event Message Notice))
+    log b [] = []
+    log b (c ∷ cs) = happens b c ++ log (stepIn b c) cs
+
+    -- settled to T: nothing is due at T, and nothing later was settled
+    pub record SettledTo (T : ℕ) (b : Book) (cs : Calls) : Type 0 where
+      pub nothing-left : (i : ℕ) → i < length b → settles T (stock (run b cs) i) ≡ 14
+      pub nothing-later : (i : ℕ) → Every (λ n. date n ≤ T) (notices (of i (log b cs)))
+
+    -- a stock is what its own history leaves, and the rules allow that history
+    abbrev pub ByHistory : Type 0
+    ByHistory = (b : Book) (cs : Calls) (i : ℕ) → i < length b
+        → Lawful (stock b i) (of i (log b cs)) × (stock (run b cs) i ≡ left (stock b i) (of i (log b cs)))
+
+    -- the same messages to each stock, both settled to one time: equal stocks and equal dated notices
+    abbrev pub Settled-alike : Type 0
+    Settled-alike = (b : Book) (cs ds : Calls) (T : ℕ) → SettledTo T b cs → SettledTo T b ds
+        → ((i : ℕ) → messages (of i (log b cs)) ≡ messages (of i (log b ds)))
+        → (i : ℕ) → i < length b
+        → (stock (run b cs) i ≡ stock (run b ds) i) × (notices (of i (log b cs)) ≡ notices (of i (log b ds)))

@@ -1,0 +1,258 @@
+-- The checks in their order, and the answers (document 01, "Units and ranges", "Numbers given back").
+-- Assumes nothing.
+use Prim.Native.Nat.{ℕ, _+_, _-_, _*_}
+use mathlib.Core.Bool.{Bool, true, false, not}
+use mathlib.Core.List.{List, [], _∷_, foldl}
+use lib.Dec.{leb, ltb, eqb}
+use lib.ListN.{length}
+use Rattle.forms.specs.Choice.{if_then_else_, allOf, anyOf}
+use Rattle.forms.specs.Checks.{Check, first}
+use Rattle.forms.specs.Checks.Check.{_when_}
+use Rattle.rules.specs.Stock.{Trade, Whole, Waiting, Paused, stateOf, clockOf, is, figuresOf}
+use Rattle.rules.specs.Quotes.{inForce, bandsIn, bestOf, straddle}
+use Rattle.rules.specs.States.{noQuotes}
+use Rattle.rules.specs.Moments.{no-moment, next, dueBy, pastAt, come}
+use Rattle.rules.specs.Messages.{kind, timeOf, taken, after}
+use Rattle.rules.specs.declared.Setup.{Setup}
+use Rattle.rules.specs.declared.Quotes.{Quotes}
+use Rattle.rules.specs.declared.Stock.{Stock}
+use Rattle.rules.specs.declared.Best.{Best}
+use Rattle.rules.specs.declared.Answer.{Answer}
+use Rattle.rules.specs.declared.Notice.{Notice}
+use Rattle.rules.specs.declared.Message.{Message}
+use Rattle.rules.specs.declared.Message.the-variants.{Trade as T, Quote as Q, Opening as O, Pause as P, Reopening as R, Closing as X}
+
+-- ------------------------------------------------------------------ "Units and ranges": each test says that something is out of range
+
+-- a side of a quote is a price or 0
+abbrev pub notSide : ℕ → Bool
+notSide price = ltb 999_999_999 price
+
+-- a price is 1 to 999,999,999
+unfoldable pub notPrice : ℕ → Bool
+notPrice price = anyOf (eqb price 0 ∷ notSide price ∷ [])
+
+-- participants are 0 to 15
+abbrev pub notParticipant : ℕ → Bool
+notParticipant participant = ltb 15 participant
+
+-- times run to E + 300,000
+abbrev pub notTime : ℕ → ℕ → Bool
+notTime end time = ltb (end + 300_000) time
+
+-- the session's end is 3,600,000 to 23,400,000
+unfoldable pub badEnd : ℕ → Bool
+badEnd end = anyOf (ltb end 3_600_000 ∷ ltb 23_400_000 end ∷ [])
+
+-- tier 1 or 2, leverage 1 to 3 and in tier 1 only 1, a participant, a price
+unfoldable pub badSetup : Setup → Bool
+badSetup u = anyOf (
+    eqb (u .tier) 0 ∷
+    ltb 2 (u .tier) ∷
+    eqb (u .leverage) 0 ∷
+    ltb 3 (u .leverage) ∷
+    allOf (eqb (u .tier) 1 ∷ ltb 1 (u .leverage) ∷ []) ∷
+    notParticipant (u .primary) ∷
+    notPrice (u .close) ∷
+    [])
+
+-- ------------------------------------------------------------------ "Numbers given back": what is rubbish
+
+-- a kept time is out of range, a stale one too
+unfoldable pub badTimes : Stock → Bool
+badTimes s = anyOf (
+    notTime (s .end) (clockOf s) ∷
+    notTime (s .end) (s .reference .start) ∷
+    notTime (s .end) (s .course .entry) ∷
+    notTime (s .end) (s .course .pause) ∷
+    [])
+
+-- a quote is out of range
+unfoldable pub orNotSide : Bool → ℕ → Bool
+orNotSide bad price = if bad then true else notSide price
+
+unfoldable pub badQuotes : Quotes → Bool
+badQuotes q = foldl orNotSide (foldl orNotSide false (q .bids)) (q .offers)
+
+-- a reference is over the price range, or 0 in states 1 to 4
+unfoldable pub badReference : Stock → Bool
+badReference s = anyOf (
+    ltb 999_999_999 (s .reference .price) ∷
+    allOf (eqb (s .reference .price) 0 ∷ leb 1 (stateOf s) ∷ leb (stateOf s) 4 ∷ []) ∷
+    [])
+
+-- the trades gone over so far: whether one was bad, and the time of the last
+pub record Seen : Type 0 where
+  pub bad : Bool
+  pub last : ℕ
+
+-- a trade is not a price, is after the clock (and so in range), or before the trade ahead of it
+unfoldable pub badTrade : ℕ → ℕ → Trade → Bool
+badTrade clock last t = anyOf (notPrice (t .price) ∷ ltb clock (t .at) ∷ ltb (t .at) last ∷ [])
+
+unfoldable pub see : ℕ → Seen → Trade → Seen
+see clock seen t = record { bad = if seen .bad then true else badTrade clock (seen .last) t; last = t .at }
+
+unfoldable pub badTrades : ℕ → List Trade → Bool
+badTrades clock w = foldl (see clock) (record { bad = false; last = 0 }) w .bad
+
+-- one of these; a pause start of E - 600,000 or later in Paused; a moment still to come that is dated before the clock
+unfoldable pub rubbish : Whole → Bool
+rubbish h = let s = h .stock in anyOf (
+    ltb 5 (stateOf s) ∷
+    badSetup (s .setup) ∷
+    badEnd (s .end) ∷
+    badTimes s ∷
+    badQuotes (s .quotes) ∷
+    badReference s ∷
+    allOf (is Paused s ∷ leb (s .end - 600_000) (s .course .pause) ∷ []) ∷
+    ltb 512 (length (h .window)) ∷
+    badTrades (clockOf s) (h .window) ∷
+    pastAt (clockOf s) (next (figuresOf (h .window)) s) ∷
+    [])
+
+-- ------------------------------------------------------------------ the first checks of every call but setup
+
+-- 1 to 64 stocks, and 512 places of each array for each
+unfoldable pub badShape : ℕ → ℕ → ℕ → Bool
+badShape stocks times prices = anyOf (
+    eqb stocks 0 ∷
+    ltb 64 stocks ∷
+    not (eqb times (512 * stocks)) ∷
+    not (eqb prices (512 * stocks)) ∷
+    [])
+
+-- the shape of the book, then the number of the stock; the checks of the stock follow
+unfoldable pub callChecks : ℕ → ℕ → ℕ → ℕ → List Check
+callChecks stocks times prices at =
+    1 when badShape stocks times prices ∷
+    3 when leb stocks at ∷
+    []
+
+-- ------------------------------------------------------------------ the checks of a message
+
+-- 4: a price, a participant or the time is out of range
+unfoldable pub outOfRange : ℕ → Message → Bool
+outOfRange end (T time price) = anyOf (notPrice price ∷ notTime end time ∷ [])
+outOfRange end (Q time participant bid offer) = anyOf (notParticipant participant ∷ notSide bid ∷ notSide offer ∷ notTime end time ∷ [])
+outOfRange end (O time participant price) = anyOf (notParticipant participant ∷ notPrice price ∷ notTime end time ∷ [])
+outOfRange end (P time participant) = anyOf (notParticipant participant ∷ notTime end time ∷ [])
+outOfRange end (R time participant price) = anyOf (notParticipant participant ∷ notPrice price ∷ notTime end time ∷ [])
+outOfRange end (X time participant price) = anyOf (notParticipant participant ∷ notPrice price ∷ notTime end time ∷ [])
+
+-- O, P, R and X must name the primary
+unfoldable pub notPrimary : ℕ → Message → Bool
+notPrimary primary (T time price) = false
+notPrimary primary (Q time participant bid offer) = false
+notPrimary primary (O time participant price) = not (eqb participant primary)
+notPrimary primary (P time participant) = not (eqb participant primary)
+notPrimary primary (R time participant price) = not (eqb participant primary)
+notPrimary primary (X time participant price) = not (eqb participant primary)
+
+-- a price outside bands in force
+unfoldable pub outside : Stock → ℕ → Bool
+outside s price = allOf (inForce s ∷ anyOf (ltb price (bandsIn s .lower) ∷ ltb (bandsIn s .upper) price ∷ []) ∷ [])
+
+-- the last checks, of each message its own
+unfoldable pub ownChecks : Message → Whole → List Check
+ownChecks (T time price) h = 12 when outside (h .stock) price ∷ 13 when leb 512 (length (h .window)) ∷ []
+ownChecks (Q time participant bid offer) h = []
+ownChecks (O time participant price) h = 9 when leb 300_000 time ∷ []
+ownChecks (P time participant) h = 9 when not (straddle (h .stock)) ∷ []
+ownChecks (R time participant price) h = 10 when ltb time (h .stock .course .pause + 300_000) ∷ []
+ownChecks (X time participant price) h = 10 when ltb time (h .stock .end) ∷ []
+
+-- 7, 9 and 11: the table's number, where it is not 0
+abbrev pub tableCheck : ℕ → List Check → List Check
+tableCheck number checks = number when not (eqb number 0) ∷ checks
+
+-- in their order
+unfoldable pub checks : Message → Whole → List Check
+checks m h = let s = h .stock in
+    1 when rubbish h ∷
+    4 when outOfRange (s .end) m ∷
+    5 when ltb (timeOf m) (clockOf s) ∷
+    6 when dueBy (timeOf m) (next (figuresOf (h .window)) s) ∷
+    8 when notPrimary (s .setup .primary) m ∷
+    tableCheck (taken (kind m) (stateOf s)) (ownChecks m h)
+
+-- the number that a message is answered with
+unfoldable pub tells : Message → Whole → ℕ
+tells m h = first (checks m h)
+
+-- ------------------------------------------------------------------ the checks of settling
+
+-- settling does the earliest moment not after the time, or answers 14
+unfoldable pub settleChecks : ℕ → Whole → List Check
+settleChecks time h = let s = h .stock in
+    1 when rubbish h ∷
+    4 when notTime (s .end) time ∷
+    14 when not (dueBy time (next (figuresOf (h .window)) s)) ∷
+    []
+
+unfoldable pub settles : ℕ → Whole → ℕ
+settles time h = first (settleChecks time h)
+
+-- ------------------------------------------------------------------ the answers
+
+abbrev pub noBest : Best
+noBest = record { bid = record { price = 0; flag = 0 }; offer = record { price = 0; flag = 0 } }
+
+-- a number with zeros beside it
+abbrev pub zeros : ℕ → Answer
+zeros number = record { number = number; state = 0; reference = 0; bands = record { lower = 0; upper = 0 }; best = noBest }
+
+-- a number with what the stock shows; after 1, 2 and 3 zeros
+unfoldable pub answer : ℕ → Stock → Answer
+answer number s =
+    if anyOf (eqb number 1 ∷ eqb number 2 ∷ eqb number 3 ∷ []) then zeros number else
+    record { number = number; state = stateOf s; reference = s .reference .price; bands = bandsIn s; best = bestOf s }
+
+-- the stock after a call: as the rules make it where the number is 0, and as it stood where not
+unfoldable pub afterTelling : Message → Whole → Whole
+afterTelling m h = if eqb (tells m h) 0 then after m h else h
+
+unfoldable pub afterSettling : ℕ → Whole → Whole
+afterSettling time h = if eqb (settles time h) 0 then come (next (figuresOf (h .window)) (h .stock)) h else h
+
+unfoldable pub tellAnswer : Message → Whole → Answer
+tellAnswer m h = answer (tells m h) (afterTelling m h .stock)
+
+unfoldable pub settleAnswer : ℕ → Whole → Notice
+settleAnswer time h = record {
+  answer = answer (settles time h) (afterSettling time h .stock);
+  moment = if eqb (settles time h) 0 then next (figuresOf (h .window)) (h .stock) else no-moment;
+}
+
+-- ------------------------------------------------------------------ setup
+
+-- Waiting, no quotes, every clock 0, no trade
+unfoldable pub fresh : ℕ → Setup → Whole
+fresh end u = record {
+  stock = record {
+    setup = u;
+    end = end;
+    course = record { state = Waiting; clock = 0; early = 1; entry = 0; pause = 0 };
+    reference = record { price = 0; start = 0; hold = 0 };
+    quotes = noQuotes;
+  };
+  window = [];
+}
+
+unfoldable pub orBadSetup : Bool → Setup → Bool
+orBadSetup bad u = if bad then true else badSetup u
+
+-- its own checks: 1 for the shape and the list, 2 for what is out of range
+unfoldable pub setupChecks : ℕ → ℕ → ℕ → ℕ → List Setup → List Check
+setupChecks stocks times prices end us =
+    1 when anyOf (badShape stocks times prices ∷ not (eqb (length us) stocks) ∷ []) ∷
+    2 when anyOf (badEnd end ∷ foldl orBadSetup false us ∷ []) ∷
+    []
+
+-- the number that a setup is answered with, of a book of so many stocks and places
+unfoldable pub setsUp : ℕ → ℕ → ℕ → ℕ → List Setup → ℕ
+setsUp stocks times prices end us = first (setupChecks stocks times prices end us)
+
+-- and its answer: zeros beside the number
+unfoldable pub setupAnswer : ℕ → ℕ → ℕ → ℕ → List Setup → Answer
+setupAnswer stocks times prices end us = zeros (setsUp stocks times prices end us)

@@ -1,0 +1,41 @@
+-- When a pause that no message declared begins (demand 3, its last sentence).
+-- Assumes nothing.
+use Prim.Native.Nat.{ℕ}
+use mathlib.Core.Bool.{Bool, true, false}
+use mathlib.Core.List.{[], _∷_}
+use mathlib.Core.Logic.{_⊎_}
+use mathlib.Core.Path.{_≡_}
+use lib.Dec.{ltb}
+use Rattle.forms.specs.Choice.{if_then_else_, anyOf}
+use Rattle.rules.specs.Stock.{Whole, Limit, Paused, Late, stateOf, is}
+use Rattle.rules.specs.Machine.{message, moment, dated, becomes}
+use Rattle.rules.specs.Book.{machine, Story}
+use Rattle.rules.specs.Readings.{Leaves}
+
+-- the events before `time`
+unfoldable pub before : ℕ → Story → Story
+before time [] = []
+before time (e ∷ es) = if ltb (dated machine e) time then e ∷ before time es else []
+
+unfoldable pub paused : Whole → Bool
+paused h = anyOf (is Paused (h .stock) ∷ is Late (h .stock) ∷ [])
+
+-- a moment of the story, dated `time`, begins a pause
+abbrev pub PauseAt : ℕ → Whole → Story → Type 0
+PauseAt time h [] = ⊥
+PauseAt time h (message m ∷ es) = PauseAt time (becomes machine h (message m)) es
+PauseAt time h (moment n ∷ es) =
+    ((n .moment .time ≡ time) × (paused h ≡ false) × (paused (becomes machine h (moment n)) ≡ true))
+    ⊎ PauseAt time (becomes machine h (moment n)) es
+
+-- the stock is in Limit at the end of the story, and no event of it ended that stay
+abbrev pub Lasts : Whole → Story → Type 0
+Lasts h [] = stateOf (h .stock) ≡ Limit
+Lasts h (e ∷ es) = (stateOf (h .stock) ≡ Limit) × (Leaves e h → ⊥) × Lasts (becomes machine h e) es
+
+-- an event of the story, dated `time`, entered a limit state, and that stay has lasted to the story's end
+abbrev pub LimitSince : ℕ → Whole → Story → Type 0
+LimitSince time h [] = ⊥
+LimitSince time h (e ∷ es) =
+    ((dated machine e ≡ time) × ((stateOf (h .stock) ≡ Limit → ⊥) ⊎ Leaves e h) × Lasts (becomes machine h e) es)
+    ⊎ LimitSince time (becomes machine h e) es

@@ -1,0 +1,44 @@
+-- The state rules (document 01, "States"). Of the window they ask its figures.
+-- Assumes nothing.
+use Prim.Native.Nat.{ℕ, _-_}
+use mathlib.Core.Bool.{not}
+use mathlib.Core.List.{[], _∷_}
+use lib.Dec.{leb, eqb}
+use lib.ListN.{replicate}
+use Rattle.forms.specs.Choice.{if_then_else_, allOf}
+use Rattle.band.specs.Band.{movesOf}
+use Rattle.rules.specs.Stock.{Trading, Paused, Late, Closed, is, clockOf, with-quotes, in-state, refer-to, enter-limit, enter-pause, noTrades, meanIn}
+use Rattle.rules.specs.Quotes.{bestOf, atLimit, crossed}
+use Rattle.rules.specs.declared.Quotes.{Quotes}
+use Rattle.rules.specs.declared.Stock.{Stock}
+use Rattle.rules.specs.declared.Figures.{Figures}
+
+-- Looking at the quotes: Trading enters Limit when a side has flag 3 and the best bid is not above the best offer.
+unfoldable pub look : Stock → Stock
+look s = if allOf (is Trading s ∷ atLimit s ∷ not (crossed (bestOf s)) ∷ []) then enter-limit s else s
+
+-- an entry into Trading, with a reference that starts now
+unfoldable pub begin-trading : ℕ → Stock → Stock
+begin-trading price s = look (in-state Trading (refer-to price s))
+
+-- Limit ends when neither side has flag 3; the reference becomes the window's mean, or stays where there is no trade.
+unfoldable pub leave : Figures → Stock → Stock
+leave f s = if atLimit s then s else begin-trading (if noTrades f then s .reference .price else meanIn f) s
+
+-- Test: in Trading, with the hold ended and a trade in the window, a mean one percent away becomes the reference.
+unfoldable pub test : Figures → Stock → Stock
+test f s =
+    if allOf (is Trading s ∷ eqb (s .reference .hold) 0 ∷ not (noTrades f) ∷ movesOf (meanIn f) 1 (s .reference .price) 1 ∷ [])
+    then look (refer-to (meanIn f) s) else s
+
+-- a pause starts now; begun at E - 600,000 or later, it is a Late pause
+unfoldable pub begin-pause : Stock → Stock
+begin-pause s = enter-pause (if leb (s .end - 600_000) (clockOf s) then Late else Paused) s
+
+-- every side of every participant absent
+abbrev pub noQuotes : Quotes
+noQuotes = record { bids = replicate 16 0; offers = replicate 16 0 }
+
+-- Closed empties the quotes and leaves the reference; the window is emptied beside it
+unfoldable pub shut : Stock → Stock
+shut s = in-state Closed (with-quotes noQuotes s)

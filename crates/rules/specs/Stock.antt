@@ -1,0 +1,125 @@
+-- One stock and its window of trades (document 01, "What the book holds", "States").
+-- Assumes nothing.
+use Prim.Native.Nat.{ℕ, _+_}
+use mathlib.Core.Bool.{Bool}
+use mathlib.Core.List.{List, [], _∷_, foldl}
+use lib.Dec.{ltb, eqb}
+use lib.ListN.{length}
+use Rattle.forms.specs.Choice.{if_then_else_}
+use Rattle.band.specs.Band.{meanOf}
+use Rattle.rules.specs.declared.Course.{Course}
+use Rattle.rules.specs.declared.Reference.{Reference}
+use Rattle.rules.specs.declared.Quotes.{Quotes}
+use Rattle.rules.specs.declared.Stock.{Stock}
+use Rattle.rules.specs.declared.Figures.{Figures}
+
+-- a held trade
+pub record Trade : Type 0 where
+  pub at : ℕ
+  pub price : ℕ
+
+-- a stock with its window, the oldest trade first
+pub record Whole : Type 0 where
+  pub stock : Stock
+  pub window : List Trade
+
+-- ------------------------------------------------------------------ the states
+
+abbrev pub Waiting : ℕ
+Waiting = 0
+
+abbrev pub Trading : ℕ
+Trading = 1
+
+abbrev pub Limit : ℕ
+Limit = 2
+
+abbrev pub Paused : ℕ
+Paused = 3
+
+abbrev pub Late : ℕ
+Late = 4
+
+abbrev pub Closed : ℕ
+Closed = 5
+
+abbrev pub stateOf : Stock → ℕ
+stateOf s = s .course .state
+
+abbrev pub clockOf : Stock → ℕ
+clockOf s = s .course .clock
+
+abbrev pub is : ℕ → Stock → Bool
+is state s = eqb (stateOf s) state
+
+-- ------------------------------------------------------------------ a stock with something set anew
+
+abbrev pub with-course : Course → Stock → Stock
+with-course c s = record { setup = s .setup; end = s .end; course = c; reference = s .reference; quotes = s .quotes }
+
+abbrev pub with-quotes : Quotes → Stock → Stock
+with-quotes q s = record { setup = s .setup; end = s .end; course = s .course; reference = s .reference; quotes = q }
+
+abbrev pub with-reference : Reference → Stock → Stock
+with-reference r s = record { setup = s .setup; end = s .end; course = s .course; reference = r; quotes = s .quotes }
+
+-- the clock is at `time`
+abbrev pub at-time : ℕ → Stock → Stock
+at-time time s =
+    let c = s .course in
+    with-course (record { state = c .state; clock = time; early = c .early; entry = c .entry; pause = c .pause }) s
+
+abbrev pub in-state : ℕ → Stock → Stock
+in-state state s =
+    let c = s .course in
+    with-course (record { state = state; clock = c .clock; early = c .early; entry = c .entry; pause = c .pause }) s
+
+-- Limit, entered now
+abbrev pub enter-limit : Stock → Stock
+enter-limit s =
+    let c = s .course in
+    with-course (record { state = Limit; clock = c .clock; early = c .early; entry = c .clock; pause = c .pause }) s
+
+-- a pause of either kind, started now
+abbrev pub enter-pause : ℕ → Stock → Stock
+enter-pause state s =
+    let c = s .course in
+    with-course (record { state = state; clock = c .clock; early = c .early; entry = c .entry; pause = c .clock }) s
+
+-- the moment f has happened
+abbrev pub not-early : Stock → Stock
+not-early s =
+    let c = s .course in
+    with-course (record { state = c .state; clock = c .clock; early = 0; entry = c .entry; pause = c .pause }) s
+
+-- the reference `price`, started now, with a new hold
+abbrev pub refer-to : ℕ → Stock → Stock
+refer-to price s = with-reference (record { price = price; start = clockOf s; hold = 1 }) s
+
+-- the moment h has happened
+abbrev pub hold-ended : Stock → Stock
+hold-ended s = with-reference (record { price = s .reference .price; start = s .reference .start; hold = 0 }) s
+
+-- ------------------------------------------------------------------ the window
+
+unfoldable pub total : List Trade → ℕ
+total w = foldl (λ sum t. sum + t .price) 0 w
+
+unfoldable pub oldest : List Trade → ℕ
+oldest [] = 0
+oldest (t ∷ ts) = t .at
+
+-- what the state rules ask of a window: count, oldest, sum
+unfoldable pub figuresOf : List Trade → Figures
+figuresOf w = record { count = length w; oldest = oldest w; sum = total w }
+
+abbrev pub noTrades : Figures → Bool
+noTrades f = eqb (f .count) 0
+
+abbrev pub meanIn : Figures → ℕ
+meanIn f = meanOf (f .sum) (f .count)
+
+-- A trade of time u leaves at u + 300,000: the trades that have not left at `time`. The oldest stand first.
+unfoldable pub staying : ℕ → List Trade → List Trade
+staying time [] = []
+staying time (t ∷ ts) = if ltb time (t .at + 300_000) then t ∷ ts else staying time ts
