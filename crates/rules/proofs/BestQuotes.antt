@@ -1,7 +1,7 @@
 -- The best bid is the highest bid that counts, and the best offer the lowest offer that counts.
 -- Assumes nothing.
 use Prim.Native.Nat.{ℕ, max, min, _≤_, _<_}
-use mathlib.Core.Bool.{Bool, true, false, true≢false}
+use mathlib.Core.Bool.{Bool, true, false, false≢true}
 use mathlib.Core.List.{List, [], _∷_, foldl}
 use mathlib.Core.Logic.{_⊎_, inl, inr}
 use mathlib.Core.Path.{_≡_, refl, sym, _∙_, subst}
@@ -56,7 +56,7 @@ unless : (on b : Bool) → allOf (on ∷ b ∷ []) ≡ false → on ≡ true →
 unfolding allOf if_then_else_
 unless true true e o = e
 unless true false e o = refl
-unless false b e o = absurd (true≢false (sym o))
+unless false b e o = absurd (false≢true o)
 
 unless-not : (on b : Bool) → (on ≡ true → b ≡ false) → allOf (on ∷ b ∷ []) ≡ false
 unfolding allOf if_then_else_

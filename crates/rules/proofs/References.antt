@@ -1,7 +1,7 @@
 -- Where a reference comes from, and when a moment is dated.
 -- Assumes nothing.
 use Prim.Native.Nat.{ℕ, _≤_}
-use mathlib.Core.Bool.{true, false, true≢false}
+use mathlib.Core.Bool.{true, false, false≢true}
 use mathlib.Core.List.{List, [], _∷_, _++_}
 use mathlib.Core.Logic.{_⊎_, inl, inr}
 use mathlib.Core.Path.{_≡_, refl, sym, subst}
@@ -91,35 +91,35 @@ module _ (h : Whole) (t : ℕ) where
 
   refers-z : at-mark mark-z
   unfolding at-mark come effect windowAfter shut if_then_else_ anyOf
-  refers-z = ((λ e. absurd (omega arith)), (λ e. absurd (true≢false (sym e))), (λ _. (refl, refl)))
+  refers-z = ((λ e. absurd (omega arith)), (λ e. absurd (false≢true e)), (λ _. (refl, refl)))
 
   refers-w : at-mark mark-w
   unfolding at-mark come effect windowAfter if_then_else_ anyOf
-  refers-w = ((λ e. absurd (omega arith)), (λ e. absurd (true≢false (sym e))), (λ _. look-same _))
+  refers-w = ((λ e. absurd (omega arith)), (λ e. absurd (false≢true e)), (λ _. look-same _))
 
   refers-x : at-mark mark-x
   unfolding at-mark come effect windowAfter begin-pause if_then_else_ anyOf
-  refers-x = ((λ e. absurd (omega arith)), (λ e. absurd (true≢false (sym e))), (λ _. (refl, refl)))
+  refers-x = ((λ e. absurd (omega arith)), (λ e. absurd (false≢true e)), (λ _. (refl, refl)))
 
   refers-p : at-mark mark-p
   unfolding at-mark come effect windowAfter if_then_else_ anyOf
-  refers-p = ((λ _. trading-begun _ _), (λ e. absurd (true≢false (sym e))), (λ e. absurd (true≢false (sym e))))
+  refers-p = ((λ _. trading-begun _ _), (λ e. absurd (false≢true e)), (λ e. absurd (false≢true e)))
 
   refers-c : at-mark mark-c
   unfolding at-mark come effect windowAfter shut if_then_else_ anyOf
-  refers-c = ((λ e. absurd (omega arith)), (λ e. absurd (true≢false (sym e))), (λ _. (refl, refl)))
+  refers-c = ((λ e. absurd (omega arith)), (λ e. absurd (false≢true e)), (λ _. (refl, refl)))
 
   refers-v : at-mark mark-v
   unfolding at-mark come effect windowAfter if_then_else_ anyOf
-  refers-v = ((λ e. absurd (omega arith)), (λ _. test-tested _ _), (λ e. absurd (true≢false (sym e))))
+  refers-v = ((λ e. absurd (omega arith)), (λ _. test-tested _ _), (λ e. absurd (false≢true e)))
 
   refers-f : at-mark mark-f
   unfolding at-mark come effect windowAfter if_then_else_ anyOf
-  refers-f = ((λ e. absurd (omega arith)), (λ _. five-tested _ _), (λ e. absurd (true≢false (sym e))))
+  refers-f = ((λ e. absurd (omega arith)), (λ _. five-tested _ _), (λ e. absurd (false≢true e)))
 
   refers-h : at-mark mark-h
   unfolding at-mark come effect windowAfter if_then_else_ anyOf
-  refers-h = ((λ e. absurd (omega arith)), (λ _. test-tested _ (hold-ended (at-time t (h .stock)))), (λ e. absurd (true≢false (sym e))))
+  refers-h = ((λ e. absurd (omega arith)), (λ _. test-tested _ (hold-ended (at-time t (h .stock)))), (λ e. absurd (false≢true e)))
 
 row-refers : (h : Whole) (m : Moment) → IsRow (figuresOf (h .window)) (h .stock) m → AtMoment h m
 unfolding at-mark

@@ -1,10 +1,10 @@
 -- The table of message by state says what it says in words, and the state follows the table of event by state.
 -- Assumes nothing.
 use Prim.Native.Nat.{ℕ, zero, suc, _<_}
-use mathlib.Core.Bool.{Bool, true, false, true≢false}
+use mathlib.Core.Bool.{Bool, true, false, false≢true}
 use mathlib.Core.List.{List, [], _∷_}
 use mathlib.Core.Logic.{inl, inr}
-use mathlib.Core.Path.{_≡_, refl, sym}
+use mathlib.Core.Path.{_≡_, refl}
 use native.Mathlib.Nat.{le-of-suc-le-suc, not-suc-le-zero}
 use native.Mathlib.Omega.{arith}
 use borrow.Author.Tests.{ltb-true, le-leb, eqb-true, eq-eqb}
@@ -106,8 +106,8 @@ five-leads f s = if-arms (λ s′. Goes s′ (stateOf s ∷ trading)) _ (λ _. i
 same-numbers : (xs ys : List ℕ) → sameNumbers xs ys ≡ true → xs ≡ ys
 unfolding sameNumbers
 same-numbers [] [] e = refl
-same-numbers [] (y ∷ ys) e = absurd (true≢false (sym e))
-same-numbers (x ∷ xs) [] e = absurd (true≢false (sym e))
+same-numbers [] (y ∷ ys) e = absurd (false≢true e)
+same-numbers (x ∷ xs) [] e = absurd (false≢true e)
 same-numbers (x ∷ xs) (y ∷ ys) e =
     let k = if-yes (eqb x y) _ e in
     let head = eqb-true x y (k .0) in

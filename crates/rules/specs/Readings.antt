@@ -192,6 +192,7 @@ trading = 1 ∷ 2 ∷ []
 abbrev pub pausing : List ℕ
 pausing = 3 ∷ 4 ∷ []
 
+-- T, Q, O, P, R and X by the codes of their letters, then the moments
 unfoldable pub stateTable : List Leads
 stateTable =
     (84 leads (0 ∷ trading) ∷ trading ∷ (2 ∷ []) ∷ [] ∷ [] ∷ [] ∷ []) ∷
