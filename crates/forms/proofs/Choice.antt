@@ -1,11 +1,11 @@
 -- The laws by which `search` picks the case of a rule from the tests that the code made.
 -- Assumes nothing.
-use Prim.Native.Nat.{ℕ}
+use Prim.Native.Nat.{ℕ, _≤_}
 use mathlib.Core.Bool.{Bool, true, false, not, false≢true}
 use mathlib.Core.List.{List, [], _∷_}
 use mathlib.Core.Path.{_≡_, refl, sym}
-use borrow.Author.Tests.{lt-ltb, le-ltb, le-leb, lt-leb, eq-eqb, ne-eqb, eqb-true, not-false}
-use lib.Dec.{eqb}
+use borrow.Author.Tests.{lt-ltb, le-ltb, le-leb, lt-leb, eq-eqb, ne-eqb, leb-true, eqb-true, not-false}
+use lib.Dec.{leb, eqb}
 use native.Mathlib.Nat.{min-eq-left, min-eq-right, max-eq-left, max-eq-right, le-of-lt}
 use native.Mathlib.Omega.{arith}
 use Rattle.forms.specs.Choice.{if_then_else_, allOf, anyOf}
@@ -63,6 +63,12 @@ unfolding if_then_else_
 if-yes true b e = (refl, e)
 if-yes false b e = absurd (false≢true e)
 
+-- where not one holds, each does not
+pub if-no : (a b : Bool) → (if a then true else b) ≡ false → (a ≡ false) × (b ≡ false)
+unfolding if_then_else_
+if-no true b e = absurd (false≢true (sym e))
+if-no false b e = (refl, e)
+
 pub all-yes : (b : Bool) (bs : List Bool) → b ≡ true → allOf bs ≡ true → allOf (b ∷ bs) ≡ true
 unfolding allOf if_then_else_
 all-yes b bs e q = rw e q
@@ -89,6 +95,13 @@ pub all-tail : (b : Bool) (bs : List Bool) → allOf (b ∷ bs) ≡ true → all
 unfolding allOf
 all-tail b bs e = if-yes b (allOf bs) e .1
 
+-- the same where the first compares
+pub all-leb : (a b : ℕ) (bs : List Bool) → allOf (leb a b ∷ bs) ≡ true → a ≤ b
+all-leb a b bs e = leb-true a b (all-head _ _ e)
+
+pub all-eqb : (a b : ℕ) (bs : List Bool) → allOf (eqb a b ∷ bs) ≡ true → a ≡ b
+all-eqb a b bs e = eqb-true a b (all-head _ _ e)
+
 pub any-here : (b : Bool) (bs : List Bool) → b ≡ true → anyOf (b ∷ bs) ≡ true
 unfolding anyOf if_then_else_
 any-here b bs e = rw e
@@ -108,14 +121,12 @@ any-empty = refl
 
 -- where none holds, the first does not, and none of the rest
 pub any-head : (b : Bool) (bs : List Bool) → anyOf (b ∷ bs) ≡ false → b ≡ false
-unfolding anyOf if_then_else_
-any-head true bs e = e
-any-head false bs e = refl
+unfolding anyOf
+any-head b bs e = if-no b (anyOf bs) e .0
 
 pub any-tail : (b : Bool) (bs : List Bool) → anyOf (b ∷ bs) ≡ false → anyOf bs ≡ false
-unfolding anyOf if_then_else_
-any-tail true bs e = absurd (false≢true (sym e))
-any-tail false bs e = e
+unfolding anyOf
+any-tail b bs e = if-no b (anyOf bs) e .1
 
 -- the same, of what a function answers
 pub any-hit : (b : Bool) (bs : List Bool) → b ≡ true → true ≡ anyOf (b ∷ bs)

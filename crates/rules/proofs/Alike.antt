@@ -11,9 +11,9 @@ use lib.ListN.{length, set, length-set}
 use lib.Seq.{getD-set-same, getD-set-other}
 use Rattle.forms.specs.Choice.{if_then_else_}
 use Rattle.forms.proofs.Choice.{if-true, if-false, if-arms}
-use Rattle.rules.specs.Machine.{Machine, Laws, Call, tell, settle, message, moment, messages, notices, On, of, Every, History, number, done, event, Lawful, left, Book, stock, numberIn, stepIn, happens, run, log, ByHistory, Settled-alike}
+use Rattle.rules.specs.Machine.{Machine, MachineLaws, Call, tell, settle, message, moment, messages, notices, On, of, Every, History, number, done, event, Lawful, left, Book, stock, numberIn, stepIn, happens, run, log, ByHistory, Alike}
 
-module _ (𝓜 : Machine) (L : Laws 𝓜) where
+module _ (𝓜 : Machine) (L : MachineLaws 𝓜) where
   open Machine 𝓜 using (Stock, Message, Notice, time, date, clock, Due, tells, settles, after, fire, notice)
 
   abbrev Events : Type 0
@@ -152,8 +152,8 @@ module _ (𝓜 : Machine) (L : Laws 𝓜) where
               (r .1 ∙ ap (λ s. left 𝓜 s es) p) ∙ sym (left-cons (at b i) (c .it) es),
             )
 
-    pub settled-alike : Settled-alike 𝓜 blank
-    settled-alike b cs ds T x y p i h =
+    pub alike : Alike 𝓜 blank
+    alike b cs ds T x y p i h =
         let u = by-history b cs i h in
         let w = by-history b ds i h in
         let e : of i (log 𝓜 blank b cs) ≡ of i (log 𝓜 blank b ds) =

@@ -1,24 +1,30 @@
 -- What calls do to a book, and that each of its stocks is what its story leaves.
 -- Assumes nothing.
 use Prim.Native.Nat.{ℕ, _<_}
-use mathlib.Core.Bool.{Bool, true, false, true≢false}
+use mathlib.Core.Bool.{Bool, true, false}
 use mathlib.Core.List.{List, [], _∷_, foldl}
-use mathlib.Core.Path.{_≡_, refl, subst}
-use borrow.Author.Tests.{ne-eqb}
+use mathlib.Core.Path.{_≡_, refl, subst, sym}
+use borrow.Author.Tests.{ne-eqb, eqb-true, ltb-true, ltb-false, lt-leb, le-leb, lt-ltb}
 use native.Mathlib.Nat.{le-of-suc-le-suc, not-suc-le-zero}
 use Prim.Native.Nat.{zero, suc}
-use lib.ListN.{length, getD, length-map, List·getD-map}
-use lib.Seq.{getD-set-other}
-use Rattle.forms.specs.Choice.{if_then_else_}
-use Rattle.forms.proofs.Choice.{if-arms, if-false, any-head, any-tail}
+use lib.ListN.{length, getD, length-map, List·getD-map, set}
+use lib.Seq.{getD-set-other, getD-set-same}
+use Rattle.forms.specs.Choice.{if_then_else_, anyOf}
+use Rattle.forms.proofs.Choice.{if-arms, if-false, any-head, any-tail, if-no}
 use Rattle.forms.proofs.Checks.{beyond}
 use Rattle.rules.specs.Stock.{Whole}
-use Rattle.rules.specs.Numbers.{badEnd, badSetup, orBadSetup, setupChecks, setsUp, settleAnswer, afterSettling, fresh}
-use Rattle.rules.specs.Machine.{Lawful, left, numberIn, stepIn}
-use Rattle.rules.specs.Book.{machine, Accepted, noSetup, blank, book, now, story}
-use Rattle.rules.specs.Demands.{ByStory, Refused, OthersStay, SettledAlike, SameNotice}
+use Rattle.rules.specs.Numbers.{badEnd, badSetup, orBadSetup, setupChecks, setsUp, settleAnswer, afterSettling, fresh, callChecks, settles, answer, notice, tellAnswer, afterTelling, zeros}
+use Rattle.rules.specs.Machine.{Lawful, left, numberIn, stepIn, tell, settle, Call, On, number, done, stock}
+use Rattle.rules.specs.Book.{machine, Accepted, noSetup, blank, book, now, story, bookTells, bookSettles}
+use Rattle.rules.specs.Demands.{ByStory, Refused, OthersStay, SettledAlike, SameNotice, BookAnswers}
 use Rattle.rules.specs.declared.Setup.{Setup}
 use Rattle.rules.proofs.Lawful.{rules-by-history, rules-settled-alike}
+use lib.Dec.{ltb, eqb}
+use Rattle.forms.specs.Checks.{first}
+use Rattle.rules.specs.declared.Stock.{Stock}
+use Rattle.rules.specs.declared.Answer.{Answer}
+use Rattle.rules.specs.declared.Message.{Message}
+use Rattle.rules.specs.Moments.{fire}
 
 -- ------------------------------------------------------------------ one call
 
@@ -31,23 +37,66 @@ unfolding stepIn
 others end b c i n = if-arms (λ (b′ : List Whole). getD b′ i (blank end) ≡ getD b i (blank end)) _ (λ _. getD-set-other b (c .at) i _ (blank end) n) (λ _. refl)
 
 pub same-notice : SameNotice
-unfolding settleAnswer afterSettling
-same-notice h t t′ e f = rw (e, f)
+unfolding settleAnswer afterSettling if_then_else_
+same-notice h time e = (rw e refl, rw e refl)
+
+-- ------------------------------------------------------------------ what a book answers
+
+module _ (end : ℕ) (b : List Whole) (i : ℕ) where
+  abbrev here : Whole
+  here = stock machine (blank end) b i
+
+  abbrev on-i : Call Message → On (Call Message)
+  on-i c = record { at = i; it = c }
+
+  -- a stock that is there, after a call on it
+  after-call : (c : Call Message) → i < length b
+      → stock machine (blank end) (stepIn machine (blank end) b (on-i c)) i ≡ (if eqb (number machine c here) 0 then done machine c here else here)
+  unfolding stepIn numberIn if_then_else_
+  after-call c l = rw (lt-ltb i (length b) l) (go (eqb (number machine c here) 0))
+    where
+      go : (ok : Bool) → getD (if ok then set b i (done machine c here) else b) i (blank end) ≡ (if ok then done machine c here else here)
+      go true = getD-set-same b i (done machine c here) (blank end) l
+      go false = refl
+
+settle-shows : (time : ℕ) (h : Whole) → settleAnswer time h .answer ≡ answer (settles time h) ((if eqb (settles time h) 0 then fire h else h) .stock)
+unfolding settleAnswer notice if_then_else_
+settle-shows time h = go (eqb (settles time h) 0) refl
+  where
+    go : (ok : Bool) → eqb (settles time h) 0 ≡ ok → settleAnswer time h .answer ≡ answer (settles time h) ((if ok then fire h else h) .stock)
+    go true e = rw (eqb-true (settles time h) 0 e)
+    go false e = rw e
+
+answer-3 : (s : Stock) → answer 3 s ≡ zeros 3
+unfolding answer anyOf if_then_else_
+answer-3 s = refl
+
+pub answers : BookAnswers
+unfolding bookTells bookSettles numberIn tellAnswer afterTelling callChecks first if_then_else_
+answers end b times prices i shape = go (ltb i (length b)) refl
+  where
+    shows : Call Message → Answer
+    shows c = answer (numberIn machine (blank end) b (on-i end b i c)) (stock machine (blank end) (stepIn machine (blank end) b (on-i end b i c)) i .stock)
+
+    go : (there : Bool) → ltb i (length b) ≡ there
+        → ((m : Message) → bookTells end b times prices i m ≡ shows (tell m)) × ((time : ℕ) → bookSettles end b times prices i time .answer ≡ shows (settle time))
+    go true e =
+        let l = ltb-true i (length b) e in
+        let n = lt-leb (length b) i l in
+        ((λ m. rw (after-call end b i (tell m) l, shape, n, e)), (λ time. rw (after-call end b i (settle time) l, shape, n, e) (settle-shows time (here end b i))))
+    go false e =
+        let n = le-leb (length b) i (ltb-false i (length b) e) in
+        ((λ m. rw (shape, n, e) (sym (answer-3 _))), (λ time. rw (shape, n, e) (sym (answer-3 _))))
 
 -- ------------------------------------------------------------------ a setup that is accepted
 
--- a test that found nothing so far, and finds nothing at one more
-not-yet : (bad : Bool) (u : Setup) → orBadSetup bad u ≡ false → (bad ≡ false) × (badSetup u ≡ false)
-unfolding orBadSetup if_then_else_
-not-yet true u e = absurd (true≢false e)
-not-yet false u e = (refl, e)
-
 none-bad : (bad : Bool) (us : List Setup) → foldl orBadSetup bad us ≡ false
     → (bad ≡ false) × ((i : ℕ) → i < length us → badSetup (getD us i noSetup) ≡ false)
+unfolding orBadSetup
 none-bad bad [] e = (e, λ i h. absurd (not-suc-le-zero h))
 none-bad bad (u ∷ us) e =
     let rest = none-bad (orBadSetup bad u) us e in
-    let here = not-yet bad u (rest .0) in
+    let here = if-no bad (badSetup u) (rest .0) in
     (here .0, λ i h. at i h (here .1) (rest .1))
   where
     at : (i : ℕ) → i < length (u ∷ us) → badSetup u ≡ false → ((j : ℕ) → j < length us → badSetup (getD us j noSetup) ≡ false)

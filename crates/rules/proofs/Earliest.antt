@@ -11,6 +11,8 @@ use Rattle.forms.specs.Choice.{if_then_else_, anyOf}
 use Rattle.rules.specs.Moments.{Row, sooner, earliest}
 use Rattle.rules.specs.declared.Moment.{Moment}
 
+-- ------------------------------------------------------------------ a table and its earliest row
+
 abbrev pub IsMoment : Moment → Type 0
 IsMoment m = m .mark ≡ 0 → ⊥
 
@@ -39,6 +41,8 @@ first-row r rs = go (r .comes) refl (eqb (earliest rs .mark) 0) refl (leb (r .ti
     go true c true p l q = head c (rw (c, p)) (λ is. absurd (is (eqb-true (m .mark) 0 p)))
     go true c false p true q = head c (rw (c, p, q)) (λ is. leb-true (r .time) (m .time) q)
     go true c false p false q = tail (rw (c, p, q)) (λ d. (eqb-false (m .mark) 0 p, leb-false (r .time) (m .time) q))
+
+-- ------------------------------------------------------------------ it is a row, and none still to come is before it
 
 -- it is one of the rows
 pub one-of : (F : Moment → Type 0) (rs : List Row) → Rows F rs → IsMoment (earliest rs) → F (earliest rs)

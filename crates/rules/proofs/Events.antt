@@ -4,8 +4,10 @@ use Prim.Native.Nat.{_≤_}
 use mathlib.Core.List.{[], _∷_}
 use mathlib.Core.Path.{_≡_, refl, ap, _∙_}
 use Rattle.rules.specs.Stock.{Whole, clockOf}
+use Rattle.rules.specs.Moments.{nextOf, fire}
+use Rattle.rules.specs.Numbers.{notice}
 use Rattle.rules.specs.Machine.{Event, message, moment, dated, Lawful, becomes, left}
-use Rattle.rules.specs.Book.{nextOf, fire, notice, machine, Story}
+use Rattle.rules.specs.Book.{machine, Story}
 use Rattle.rules.specs.Readings.{lastDate}
 use Rattle.rules.specs.declared.Notice.{Notice}
 use Rattle.rules.specs.declared.Message.{Message}
@@ -13,6 +15,10 @@ use Rattle.rules.proofs.Kept.{kept, after-kept, come-kept}
 use Rattle.rules.proofs.Lawful.{machineLaws}
 
 module _ (h : Whole) where
+  pub first-lawful : (e : Event Message Notice) (es : Story) → Lawful machine h (e ∷ es) → Lawful machine h (e ∷ [])
+  first-lawful (message m) es v = (v .0, tt)
+  first-lawful (moment n) es v = (v .0, v .1, tt)
+
   pub rest-lawful : (e : Event Message Notice) (es : Story) → Lawful machine h (e ∷ es) → Lawful machine (becomes machine h e) es
   rest-lawful (message m) es v = v .1
   rest-lawful (moment n) es v = v .2

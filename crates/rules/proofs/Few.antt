@@ -13,12 +13,12 @@ use Rattle.forms.specs.Choice.{if_then_else_, anyOf}
 use Rattle.forms.proofs.Choice.{if-arms, all-head, all-tail, any-head, any-tail}
 use Rattle.rules.specs.Stock.{Trade, Whole, Waiting, Trading, Limit, Paused, Late, stateOf, clockOf, is, at-time, in-state, enter-limit, enter-pause, not-early, refer-to, hold-ended, oldest, figuresOf, meanIn, staying}
 use Rattle.rules.specs.States.{look, begin-trading, test, begin-pause, shut}
-use Rattle.rules.specs.Moments.{first-five, effect, windowAfter, come}
+use Rattle.rules.specs.Moments.{first-five, effect, windowAfter, come, nextOf, fire}
 use Rattle.rules.specs.Messages.{after}
-use Rattle.rules.specs.Numbers.{badEnd, fresh}
+use Rattle.rules.specs.Numbers.{badEnd, fresh, notice}
 use Rattle.rules.specs.Machine.{message, moment, Lawful, left}
-use Rattle.rules.specs.Book.{nextOf, fire, notice, machine, Story}
-use Rattle.rules.specs.Readings.{Moments}
+use Rattle.rules.specs.Book.{machine, Story}
+use Rattle.rules.specs.Readings.{MomentsOnly}
 use Rattle.rules.specs.Demands.{leaves, FewMoments}
 use Rattle.rules.specs.declared.Stock.{Stock}
 use Rattle.rules.specs.declared.Figures.{Figures}
@@ -193,7 +193,7 @@ come-spends m h r l row = go row
 
 -- ------------------------------------------------------------------ moments in a row
 
-spent : (ns : Story) (h : Whole) → Sane h → Timely h → Lawful machine h ns → Moments ns
+spent : (ns : Story) (h : Whole) → Sane h → Timely h → Lawful machine h ns → MomentsOnly ns
     → 300_000 * length ns + gone (h .stock) ≤ 300_000 * still (length (h .window)) (h .stock) + 261_000_000
 unfolding fire notice
 spent [] h i j v o = unfold gone badEnd in

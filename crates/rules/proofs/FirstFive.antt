@@ -6,17 +6,17 @@ use mathlib.Core.List.{List, [], _∷_}
 use mathlib.Core.Path.{_≡_, refl, sym, ap, _∙_}
 use native.Mathlib.Decide.{ℕ-discrete}
 use native.Mathlib.Omega.{arith}
-use borrow.Author.Tests.{leb-true, ltb-false, eqb-true, eqb-false, eq-eqb, not-true}
-use lib.Dec.{eqb, leb}
+use borrow.Author.Tests.{ltb-false, eqb-true, eqb-false, eq-eqb, not-true}
+use lib.Dec.{eqb}
 use Rattle.forms.specs.Choice.{if_then_else_, allOf}
-use Rattle.forms.proofs.Choice.{if-arms, all-head, all-tail, all-yes, all-empty, any-head, any-tail, ne-not}
+use Rattle.forms.proofs.Choice.{if-arms, all-head, all-tail, all-yes, all-empty, any-head, any-tail, ne-not, all-leb}
 use Rattle.rules.specs.Stock.{Whole, Waiting, stateOf, at-time, hold-ended, figuresOf}
 use Rattle.rules.specs.States.{begin-pause, shut}
-use Rattle.rules.specs.Moments.{mark-v, mark-f, momentTable, next, effect, come}
+use Rattle.rules.specs.Moments.{mark-v, mark-f, momentTable, next, effect, come, nextOf, fire}
 use Rattle.rules.specs.Messages.{after}
-use Rattle.rules.specs.Numbers.{badEnd, rubbish, settles, fresh}
+use Rattle.rules.specs.Numbers.{badEnd, rubbish, settles, fresh, notice}
 use Rattle.rules.specs.Machine.{message, moment, Lawful, left}
-use Rattle.rules.specs.Book.{nextOf, fire, notice, machine, Story}
+use Rattle.rules.specs.Book.{machine, Story}
 use Rattle.rules.specs.Readings.{markOf, countOf}
 use Rattle.rules.specs.Pauses.{before}
 use Rattle.rules.specs.Demands.{leaves, OneF}
@@ -64,9 +64,6 @@ other-leaves h n = effect-early (nextOf h .mark) _ _ n
 all-then-some : (b : Bool) (a : ℕ) (bs : List Bool) → allOf (b ∷ not (eqb a 0) ∷ bs) ≡ true → 1 ≤ a
 all-then-some b a bs e = let n = eqb-false a 0 (not-true _ (all-head _ _ (all-tail _ _ e))) in omega arith
 
-all-least : (a b : ℕ) (bs : List Bool) → allOf (leb a b ∷ bs) ≡ true → a ≤ b
-all-least a b bs e = leb-true a b (all-head _ _ e)
-
 f-early : (h : Whole) → IsMoment (nextOf h) → nextOf h .mark ≡ mark-f → 1 ≤ early (h .stock)
 unfolding momentTable
 f-early h m = by-row h m (λ m. m .mark ≡ mark-f → 1 ≤ early (h .stock)) (omega (arith, all-then-some))
@@ -83,7 +80,7 @@ f-or-v : (h : Whole) → IsMoment (nextOf h) → stateOf (h .stock) ≡ Waiting 
     → (nextOf h .mark ≡ mark-f → ⊥) → nextOf h .mark ≡ mark-v
 unfolding momentTable
 f-or-v h m w l =
-    by-row h m (λ m. m .time ≤ 300_000 → (m .mark ≡ mark-f → ⊥) → m .mark ≡ mark-v) (omega (arith, eqb-true, all-least))
+    by-row h m (λ m. m .time ≤ 300_000 → (m .mark ≡ mark-f → ⊥) → m .mark ≡ mark-v) (omega (arith, eqb-true, all-leb))
 
 v-waits : (h : Whole) → stateOf (h .stock) ≡ Waiting → nextOf h .mark ≡ mark-v → stateOf (fire h .stock) ≡ Waiting
 unfolding fire come effect if_then_else_

@@ -10,15 +10,15 @@ use borrow.Author.Tests.{leb-true, ltb-true, ltb-false, eqb-true, eqb-false, lt-
 use lib.Dec.{lit≤, leb, ltb, eqb}
 use lib.ListN.{length}
 use Rattle.forms.specs.Choice.{if_then_else_, allOf, anyOf}
-use Rattle.forms.proofs.Choice.{if-true, if-false, if-arms, all-head, all-tail, all-yes, all-empty, any-head, any-tail, ne-not}
+use Rattle.forms.proofs.Choice.{if-true, if-false, if-arms, all-tail, all-yes, all-empty, any-head, any-tail, ne-not, if-no, all-leb, all-eqb}
 use Rattle.rules.specs.Stock.{hold-ended, Trade, Whole, stateOf, clockOf, oldest, figuresOf, staying}
 use Rattle.rules.specs.States.{begin-pause}
-use Rattle.rules.specs.Moments.{mark-v, momentTable, next, dueBy, effect, windowAfter, come}
+use Rattle.rules.specs.Moments.{mark-v, momentTable, next, dueBy, effect, windowAfter, come, nextOf, fire}
 use Rattle.rules.specs.Messages.{kind, timeOf, taken, does, after}
-use Rattle.rules.specs.Numbers.{Seen, badTrade, see, badTrades, rubbish, tells, settles, fresh}
+use Rattle.rules.specs.Numbers.{Seen, badTrade, see, badTrades, rubbish, tells, settles, fresh, notice}
 use Rattle.rules.specs.Machine.{message, moment, Lawful, left}
-use Rattle.rules.specs.Book.{nextOf, fire, notice, machine, Story}
-use Rattle.rules.specs.Readings.{joins, joined, recent}
+use Rattle.rules.specs.Book.{machine, Story}
+use Rattle.rules.specs.Readings.{closes, joins, joined, recent}
 use Rattle.rules.specs.Demands.{leaves, HeldTrades}
 use Rattle.rules.specs.declared.Stock.{Stock}
 use Rattle.rules.specs.declared.Figures.{Figures}
@@ -29,16 +29,11 @@ use Rattle.rules.proofs.Earliest.{IsMoment, one-of, none-before}
 use Rattle.rules.proofs.Passed.{told, settled, idle}
 use Rattle.rules.proofs.Lawful.{when-due, when-not, machineLaws}
 use Rattle.rules.proofs.Kept.{Stands, look-stands, trading-stands, test-stands, five-stands, trade-stands, quote-stands}
-use Rattle.rules.proofs.Last.{closing, effect-open}
+use Rattle.rules.proofs.Last.{effect-open}
 use Rattle.rules.proofs.Sound.{IsPrice, InOrder, is-price}
 use Rattle.rules.proofs.Timely.{mark-rows}
 
 -- ------------------------------------------------------------------ a window that check 1 lets pass
-
-if-no : (a b : Bool) → (if a then true else b) ≡ false → (a ≡ false) × (b ≡ false)
-unfolding if_then_else_
-if-no true b e = absurd (true≢false e)
-if-no false b e = (refl, e)
 
 follows : (clock last : ℕ) (t : Trade) → badTrade clock last t ≡ false → IsPrice (t .price) × (last ≤ t .at) × (t .at ≤ clock)
 unfolding badTrade
@@ -121,20 +116,13 @@ told-low m h e = go (eqb (stateOf (h .stock)) 5) refl
     go true p = absurd (shut-takes m (rw (eqb-true (stateOf (h .stock)) 5 p) at (told m h e .state-takes)))
     go false p = omega (arith, ltb-false 5 (stateOf (h .stock)) (any-head _ _ (told m h e .sound)), eqb-false (stateOf (h .stock)) 5 p)
 
--- tests that all hold, as facts for omega
-head-leb : (a b : ℕ) (bs : List Bool) → allOf (leb a b ∷ bs) ≡ true → a ≤ b
-head-leb a b bs e = leb-true a b (all-head _ bs e)
-
-head-eqb : (a b : ℕ) (bs : List Bool) → allOf (eqb a b ∷ bs) ≡ true → a ≡ b
-head-eqb a b bs e = eqb-true a b (all-head _ bs e)
-
 between : (a n b : ℕ) (bs : List Bool) → allOf (leb a n ∷ leb n b ∷ bs) ≡ true → n ≤ b
-between a n b bs e = head-leb n b bs (all-tail _ _ e)
+between a n b bs e = all-leb n b bs (all-tail _ _ e)
 
 moment-low : (h : Whole) → IsMoment (nextOf h) → Low (h .stock)
 unfolding next momentTable
 moment-low h is =
-    one-of (λ _. Low (h .stock)) (momentTable (figuresOf (h .window)) (h .stock)) (omega (arith, leb-true, eqb-true, between, head-leb, head-eqb)) is
+    one-of (λ _. Low (h .stock)) (momentTable (figuresOf (h .window)) (h .stock)) (omega (arith, leb-true, eqb-true, between, all-leb, all-eqb)) is
 
 -- ------------------------------------------------------------------ and is not closed after it, or its window is emptied
 
@@ -145,7 +133,7 @@ pause-low : (s : Stock) → Low (begin-pause s)
 unfolding begin-pause
 pause-low s = if-arms (λ n. n ≤ 4) _ (λ _. lit≤ tt) (λ _. lit≤ tt)
 
-effect-low : (mark : ℕ) (f : Figures) (s : Stock) → closing mark ≡ false → Low s → Low (effect mark f s)
+effect-low : (mark : ℕ) (f : Figures) (s : Stock) → closes mark ≡ false → Low s → Low (effect mark f s)
 effect-low mark f s e l =
     effect-open Low mark f s e (look-stands stands-low s l) (pause-low s) (trading-stands stands-low _ s l) (test-stands stands-low f s l)
     (five-stands stands-low f s l) (test-stands stands-low f (hold-ended s) l)
@@ -189,11 +177,11 @@ message-holds m h l i e =
     go (X t j a) k = (t, omega arith, refl)
 
 moment-window : (m : Moment) (clock cut : ℕ) (w l : List Trade) → InOrder 0 clock w → cut ≤ m .time → w ≡ recent cut l
-    → (d : ℕ) × (d ≤ m .time) × (windowAfter m w ≡ recent d (if closing (m .mark) then [] else l))
+    → (d : ℕ) × (d ≤ m .time) × (windowAfter m w ≡ recent d (if closes (m .mark) then [] else l))
 unfolding windowAfter recent if_then_else_ anyOf
-moment-window m clock cut w l o by held = go (eqb (m .mark) mark-v) refl (closing (m .mark)) refl
+moment-window m clock cut w l o by held = go (eqb (m .mark) mark-v) refl (closes (m .mark)) refl
   where
-    go : (v : Bool) → eqb (m .mark) mark-v ≡ v → (c : Bool) → closing (m .mark) ≡ c
+    go : (v : Bool) → eqb (m .mark) mark-v ≡ v → (c : Bool) → closes (m .mark) ≡ c
         → (d : ℕ) × (d ≤ m .time) × ((if v then staying (m .time) w else if c then [] else w) ≡ recent d (if c then [] else l))
     go true p true q = absurd (true≢false (sym q ∙ rw (eqb-true (m .mark) mark-v p)))
     go true p false q =
@@ -210,11 +198,11 @@ moment-holds t h l i e =
       cut = r .0;
       cut-by = omega (arith, machineLaws .at-moment h, r .1);
       held = r .2;
-      live = live (r .0) (r .2) (closing (nextOf h .mark)) refl;
+      live = live (r .0) (r .2) (closes (nextOf h .mark)) refl;
     }
   where
-    live : (d : ℕ) → fire h .window ≡ recent d (if closing (nextOf h .mark) then [] else l)
-        → (c : Bool) → closing (nextOf h .mark) ≡ c → Low (fire h .stock) ⊎ (fire h .window ≡ [])
+    live : (d : ℕ) → fire h .window ≡ recent d (if closes (nextOf h .mark) then [] else l)
+        → (c : Bool) → closes (nextOf h .mark) ≡ c → Low (fire h .stock) ⊎ (fire h .window ≡ [])
     live d w true q = inr (w ∙ rw q)
     live d w false q = inl (effect-low _ _ _ q (moment-low h (when-due t (nextOf h) (settled t h e .due) .0)))
 
@@ -241,15 +229,20 @@ idle-stays time s (a ∷ w) l e = if-true _ _ _ (lt-ltb time (a .at + 300_000) (
 
 pub held-trades : HeldTrades
 unfolding fresh recent
-held-trades end u es a time e c =
-    let i = left-holds es (fresh end u) [] (record { cut = 0; cut-by = lit≤ tt; held = refl; live = inl (lit≤ tt) }) (a .lawful) in
-    sym (none-left (i .live)) ∙ (ap (recent time) (i .held) ∙ recent-twice (i .cut) time (omega (arith, i .cut-by)) (joined [] es))
+held-trades end u es a = ((i .cut, i .cut-by, i .held), nothing-due)
   where
     h : Whole
     h = leaves end u es
 
-    none-left : Low (h .stock) ⊎ (h .window ≡ []) → recent time (h .window) ≡ h .window
-    none-left (inl l) =
+    i : Holds h (joined [] es)
+    i = left-holds es (fresh end u) [] (record { cut = 0; cut-by = lit≤ tt; held = refl; live = inl (lit≤ tt) }) (a .lawful)
+
+    none-left : (time : ℕ) → settles time h ≡ 14 → Low (h .stock) ⊎ (h .window ≡ []) → recent time (h .window) ≡ h .window
+    none-left time e (inl l) =
         sym (staying-recent time _ 0 (h .window) (window-in-order h (idle time h e .sound)))
         ∙ idle-stays time (h .stock) (h .window) l (idle time h e .none-due)
-    none-left (inr p) = rw p
+    none-left time e (inr p) = rw p
+
+    nothing-due : (time : ℕ) → settles time h ≡ 14 → clockOf (h .stock) ≤ time → h .window ≡ recent time (joined [] es)
+    nothing-due time e c =
+        sym (none-left time e (i .live)) ∙ (ap (recent time) (i .held) ∙ recent-twice (i .cut) time (omega (arith, i .cut-by)) (joined [] es))

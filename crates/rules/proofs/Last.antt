@@ -7,20 +7,20 @@ use mathlib.Core.Logic.{_⊎_, inl, inr}
 use mathlib.Core.Path.{_≡_, refl, sym, ap, _∙_}
 use native.Mathlib.Omega.{arith}
 use borrow.Author.Tests.{eqb-true, eqb-false}
-use lib.Dec.{eqb}
+use lib.Dec.{eqb, lit≤}
 use lib.ListN.{length, getD, set, replicate, length-set, getD-replicate}
 use lib.Seq.{getD-set-same, getD-set-other}
-use Rattle.forms.specs.Choice.{if_then_else_, anyOf}
+use Rattle.forms.specs.Choice.{if_then_else_}
 use Rattle.forms.proofs.Choice.{both-arms, if-arms, any-head, any-tail, any-not, any-empty}
 use Rattle.rules.specs.Stock.{Whole, hold-ended}
 use Rattle.rules.specs.States.{look, begin-trading, test, begin-pause, noQuotes, shut}
-use Rattle.rules.specs.Moments.{mark-z, mark-c, first-five, effect, come}
+use Rattle.rules.specs.Moments.{mark-z, mark-c, first-five, effect, come, nextOf, fire}
 use Rattle.rules.specs.Messages.{with-quote, does, after}
-use Rattle.rules.specs.Numbers.{fresh}
+use Rattle.rules.specs.Numbers.{fresh, notice}
 use Rattle.rules.specs.Machine.{message, moment, Lawful, left}
-use Rattle.rules.specs.Book.{nextOf, fire, notice, machine, Story}
-use Rattle.rules.specs.Readings.{quoteBy, lastQuote}
-use Rattle.rules.specs.Demands.{ClockIs, LastQuotes}
+use Rattle.rules.specs.Book.{machine, Story}
+use Rattle.rules.specs.Readings.{closes, quoteBy, lastQuote}
+use Rattle.rules.specs.Demands.{ClockIs, LastQuotes, leaves}
 use Rattle.rules.specs.declared.Quotes.{Quotes}
 use Rattle.rules.specs.declared.Stock.{Stock}
 use Rattle.rules.specs.declared.Figures.{Figures}
@@ -39,11 +39,7 @@ clock end u es a =
 
 -- ------------------------------------------------------------------ a moment that closes, and one that does not
 
--- the moments z and c
-abbrev pub closing : ℕ → Bool
-closing mark = anyOf (eqb mark mark-z ∷ eqb mark mark-c ∷ [])
-
-closing-mark : (mark : ℕ) → closing mark ≡ true → (mark ≡ mark-z) ⊎ (mark ≡ mark-c)
+closing-mark : (mark : ℕ) → closes mark ≡ true → (mark ≡ mark-z) ⊎ (mark ≡ mark-c)
 closing-mark mark e = go (eqb mark mark-z) refl (eqb mark mark-c) refl
   where
     go : (a : Bool) → eqb mark mark-z ≡ a → (b : Bool) → eqb mark mark-c ≡ b → (mark ≡ mark-z) ⊎ (mark ≡ mark-c)
@@ -51,7 +47,7 @@ closing-mark mark e = go (eqb mark mark-z) refl (eqb mark mark-c) refl
     go false p true q = inr (eqb-true mark mark-c q)
     go false p false q = absurd (true≢false (sym e ∙ any-not _ _ p (any-not _ _ q any-empty)))
 
-effect-closing : (mark : ℕ) (f : Figures) (s : Stock) → closing mark ≡ true → effect mark f s ≡ shut s
+effect-closing : (mark : ℕ) (f : Figures) (s : Stock) → closes mark ≡ true → effect mark f s ≡ shut s
 unfolding effect if_then_else_
 effect-closing mark f s e = go (closing-mark mark e)
   where
@@ -60,7 +56,7 @@ effect-closing mark f s e = go (closing-mark mark e)
     go (inr p) = rw p
 
 -- what each of the other effects gives, a moment that does not close gives
-pub effect-open : (F : Stock → Type 0) (mark : ℕ) (f : Figures) (s : Stock) → closing mark ≡ false → F (look s) → F (begin-pause s)
+pub effect-open : (F : Stock → Type 0) (mark : ℕ) (f : Figures) (s : Stock) → closes mark ≡ false → F (look s) → F (begin-pause s)
     → F (begin-trading (s .reference .price) s) → F (test f s) → F (first-five f s) → F (test f (hold-ended s)) → F (effect mark f s)
 effect-open F mark f s e w x p v five h =
     effect-by F mark f s (λ z. absurd (eqb-false mark _ (any-head _ _ e) z)) (λ _. w) (λ _. x) (λ _. p)
@@ -89,11 +85,11 @@ does-quotes (P t i) h = refl
 does-quotes (R t i a) h = trading-stands (stands-quotes _) a _ refl
 does-quotes (X t i a) h = refl
 
-effect-quotes : (mark : ℕ) (f : Figures) (s : Stock) → effect mark f s .quotes ≡ (if closing mark then noQuotes else s .quotes)
+effect-quotes : (mark : ℕ) (f : Figures) (s : Stock) → effect mark f s .quotes ≡ (if closes mark then noQuotes else s .quotes)
 unfolding shut begin-pause
 effect-quotes mark f s =
     let k = stands-quotes (s .quotes) in
-    if-arms (λ q. effect mark f s .quotes ≡ q) (closing mark)
+    if-arms (λ q. effect mark f s .quotes ≡ q) (closes mark)
     (λ e. ap (λ s. s .quotes) (effect-closing mark f s e))
     (λ e. effect-open (λ r. r .quotes ≡ s .quotes) mark f s e (look-stands k s refl) refl (trading-stands k _ s refl) (test-stands k f s refl)
     (five-stands k f s refl) (test-stands k f (hold-ended s) refl))
@@ -134,11 +130,14 @@ last-left i l [] h last v k = k
 last-left i l (message m ∷ es) h last v k =
     last-left i l es (after m h) (quoteBy i last (message m)) (v .1) (rw (does-quotes m _) (last-by i l m (h .stock .quotes) last k))
 last-left i l (moment n ∷ es) h last v k =
-    last-left i l es (fire h) (quoteBy i last (moment n)) (v .2) (rw (v .1, effect-quotes (nextOf h .mark) _ _) (go (closing (nextOf h .mark))))
+    last-left i l es (fire h) (quoteBy i last (moment n)) (v .2) (rw (v .1, effect-quotes (nextOf h .mark) _ _) (go (closes (nextOf h .mark))))
   where
     go : (c : Bool) → Last i (if c then noQuotes else h .stock .quotes) (if c then (0, 0) else last)
     go c = both-arms (Last i) c (λ _. none-last i l) (λ _. k)
 
 pub last-quotes : LastQuotes
 unfolding fresh
-last-quotes end u es a i l = let k = last-left i l es (fresh end u) (0, 0) (a .lawful) (none-last i l) in (k .0 .1, k .1 .1)
+last-quotes end u es a = (k 0 (lit≤ tt) .0 .0, k 0 (lit≤ tt) .1 .0, λ i l. (k i l .0 .1, k i l .1 .1))
+  where
+    k : (i : ℕ) → i ≤ 15 → Last i (leaves end u es .stock .quotes) (lastQuote i (0, 0) es)
+    k i l = last-left i l es (fresh end u) (0, 0) (a .lawful) (none-last i l)

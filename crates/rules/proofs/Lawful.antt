@@ -8,13 +8,13 @@ use borrow.Author.Tests.{leb-true, leb-false, ltb-false, eqb-false, not-true}
 use lib.Dec.{leb, ltb}
 use Rattle.forms.proofs.Choice.{all-head, all-tail, all-yes, all-empty, any-head, any-tail, ne-not}
 use Rattle.rules.specs.Stock.{Whole, clockOf}
-use Rattle.rules.specs.Moments.{dueBy, pastAt}
+use Rattle.rules.specs.Moments.{dueBy, pastAt, nextOf, fire}
 use Rattle.rules.specs.Messages.{timeOf}
-use Rattle.rules.specs.Numbers.{rubbish}
-use Rattle.rules.specs.Machine.{Laws, ByHistory, Settled-alike}
-use Rattle.rules.specs.Book.{nextOf, fire, notice, machine}
+use Rattle.rules.specs.Numbers.{rubbish, notice}
+use Rattle.rules.specs.Machine.{MachineLaws, ByHistory, Alike}
+use Rattle.rules.specs.Book.{machine}
 use Rattle.rules.specs.declared.Moment.{Moment}
-use Rattle.rules.proofs.Alike.{by-history, settled-alike}
+use Rattle.rules.proofs.Alike.{by-history, alike}
 use Rattle.rules.proofs.Earliest.{IsMoment}
 use Rattle.rules.proofs.Kept.{after-kept, come-kept}
 use Rattle.rules.proofs.Passed.{told, settled, idle}
@@ -56,7 +56,7 @@ pub fire-clock : (h : Whole) → clockOf (fire h .stock) ≡ nextOf h .time
 unfolding fire
 fire-clock h = ap (λ k. k .0) (come-kept (nextOf h) h)
 
-pub machineLaws : Laws machine
+pub machineLaws : MachineLaws machine
 unfolding notice
 machineLaws = record {
   not-back = λ m h e. told m h e .not-back;
@@ -71,5 +71,5 @@ machineLaws = record {
 pub rules-by-history : (blank : Whole) → ByHistory machine blank
 rules-by-history = by-history machine machineLaws
 
-pub rules-settled-alike : (blank : Whole) → Settled-alike machine blank
-rules-settled-alike = settled-alike machine machineLaws
+pub rules-settled-alike : (blank : Whole) → Alike machine blank
+rules-settled-alike = alike machine machineLaws

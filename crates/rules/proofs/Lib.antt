@@ -17,7 +17,10 @@ pub mod Stays
 pub mod Pauses
 pub mod FirstFive
 pub mod Trades
+pub mod PausedSince
 pub mod Resumes
 pub mod Last
 pub mod Held
 pub mod BestQuotes
+pub mod Looks
+pub mod Since

@@ -11,10 +11,10 @@ use Rattle.forms.specs.Choice.{allOf}
 use Rattle.forms.proofs.Choice.{all-head, all-tail}
 use Rattle.forms.proofs.Tables.{_│_}
 use Rattle.rules.specs.Stock.{Whole, Waiting, Limit, Paused, Late, stateOf, clockOf, figuresOf}
-use Rattle.rules.specs.Moments.{mark-z, mark-w, mark-x, mark-p, mark-c, mark-v, mark-f, mark-h, momentTable, next}
-use Rattle.rules.specs.Numbers.{settles}
+use Rattle.rules.specs.Moments.{mark-z, mark-w, mark-x, mark-p, mark-c, mark-v, mark-f, mark-h, momentTable, next, nextOf}
+use Rattle.rules.specs.Numbers.{settles, notice}
 use Rattle.rules.specs.Machine.{moment, Lawful}
-use Rattle.rules.specs.Book.{nextOf, notice, machine}
+use Rattle.rules.specs.Book.{machine}
 use Rattle.rules.specs.declared.Stock.{Stock}
 use Rattle.rules.specs.declared.Figures.{Figures}
 use Rattle.rules.specs.declared.Moment.{Moment}
@@ -22,6 +22,8 @@ use Rattle.rules.specs.declared.Notice.{Notice}
 use Rattle.rules.proofs.Earliest.{IsMoment, Rows, one-of}
 use Rattle.rules.proofs.Passed.{settled}
 use Rattle.rules.proofs.Lawful.{when-due}
+
+-- ------------------------------------------------------------------ what a row says
 
 -- a row that is still to come
 pub data IsRow (f : Figures) (s : Stock) (m : Moment) : Type 0 where
@@ -57,6 +59,8 @@ rows f s =
   where
     second : (a b : Bool) (bs : List Bool) → allOf (a ∷ b ∷ bs) ≡ true → b ≡ true
     second a b bs on = all-head _ _ (all-tail _ _ on)
+
+-- ------------------------------------------------------------------ the moment that happens
 
 -- the next moment of a stock is a row
 pub next-row : (f : Figures) (s : Stock) → IsMoment (next f s) → IsRow f s (next f s)

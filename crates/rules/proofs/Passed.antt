@@ -9,10 +9,9 @@ use Rattle.forms.proofs.Checks.{beyond, own-passed, applied, passed, all-passed
 use Rattle.forms.proofs.Choice.{eq-not}
 use Rattle.forms.proofs.Tables.{_│_}
 use Rattle.rules.specs.Stock.{Whole, stateOf, clockOf}
-use Rattle.rules.specs.Moments.{dueBy}
+use Rattle.rules.specs.Moments.{dueBy, nextOf}
 use Rattle.rules.specs.Messages.{kind, timeOf, taken}
 use Rattle.rules.specs.Numbers.{rubbish, outOfRange, notPrimary, ownChecks, checks, tells, settleChecks, settles}
-use Rattle.rules.specs.Book.{nextOf}
 use Rattle.rules.specs.Demands.{AcceptedWhere}
 use Rattle.rules.specs.declared.Message.{Message}
 use Rattle.rules.specs.declared.Message.the-variants.{Trade as T, Quote as Q, Opening as O, Pause as P, Reopening as R, Closing as X}

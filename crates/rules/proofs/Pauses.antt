@@ -17,12 +17,12 @@ use Rattle.band.specs.declared.Limits.{Limits}
 use Rattle.rules.specs.Stock.{Whole, Trading, Limit, Paused, Late, stateOf, clockOf, is, at-time, hold-ended, figuresOf}
 use Rattle.rules.specs.Quotes.{inForce, kTime, bandsIn}
 use Rattle.rules.specs.States.{begin-pause, shut}
-use Rattle.rules.specs.Moments.{mark-z, mark-w, mark-x, Row, _at_while_, momentTable, earliest, next, first-five, effect, come}
+use Rattle.rules.specs.Moments.{mark-z, mark-w, mark-x, Row, _at_while_, momentTable, earliest, next, first-five, effect, come, nextOf, fire}
 use Rattle.rules.specs.Messages.{after}
-use Rattle.rules.specs.Numbers.{settles, fresh}
+use Rattle.rules.specs.Numbers.{settles, fresh, notice}
 use Rattle.rules.specs.Machine.{Event, message, moment, dated, Lawful, becomes, left}
-use Rattle.rules.specs.Book.{nextOf, fire, notice, machine, Story}
-use Rattle.rules.specs.Pauses.{before, paused, PauseAt, LimitSince}
+use Rattle.rules.specs.Book.{machine, Story}
+use Rattle.rules.specs.Pauses.{before, inPause, PauseAt, LimitSince}
 use Rattle.rules.specs.Demands.{leaves, BandsAre, PausesBegin, LimitHolds}
 use Rattle.rules.specs.declared.Setup.{Setup}
 use Rattle.rules.specs.declared.Stock.{Stock}
@@ -122,9 +122,9 @@ next-in-limit h l =
 -- ------------------------------------------------------------------ a moment in Limit
 
 -- the moment that begins a pause
-begins : (h : Whole) (t : ℕ) → settles t h ≡ 0 → paused h ≡ false → paused (fire h) ≡ true
+begins : (h : Whole) (t : ℕ) → settles t h ≡ 0 → inPause h ≡ false → inPause (fire h) ≡ true
     → (stateOf (h .stock) ≡ Limit) × (nextOf h .time ≡ h .stock .course .entry + 15_000) × (nextOf h .time < h .stock .end)
-unfolding fire come paused
+unfolding fire come inPause
 begins h t e c b =
     let m = machineLaws .its-time t h e .0 in
     let x : nextOf h .mark ≡ mark-x = go (ℕ-discrete (nextOf h .mark) mark-x) in
@@ -145,8 +145,8 @@ unfolding begin-pause
 pause-begun s = if-arms (λ state. anyOf (eqb state Paused ∷ eqb state Late ∷ []) ≡ true) _
     (λ _. any-there _ _ (any-here _ _ refl)) (λ _. any-here _ _ refl)
 
-x-pauses : (h : Whole) → nextOf h .mark ≡ mark-x → stateOf (h .stock) ≡ Limit → (paused h ≡ false) × (paused (fire h) ≡ true)
-unfolding fire come effect paused if_then_else_
+x-pauses : (h : Whole) → nextOf h .mark ≡ mark-x → stateOf (h .stock) ≡ Limit → (inPause h ≡ false) × (inPause (fire h) ≡ true)
+unfolding fire come effect inPause if_then_else_
 x-pauses h e l = (rw l no-pause, rw e (pause-begun _))
 
 -- ------------------------------------------------------------------ the story before a time

@@ -7,44 +7,43 @@ use mathlib.Core.Path.{_≡_, refl, ap, subst}
 use native.Mathlib.Omega.{arith}
 use borrow.Author.Tests.{ltb-false}
 use lib.ListN.{getD}
+use Rattle.forms.specs.Choice.{if_then_else_, anyOf}
 use Rattle.forms.proofs.Choice.{eq-of-not, if-arms}
 use Rattle.forms.proofs.Checks.{beyond}
 use Rattle.forms.proofs.Tables.{_│_}
 use Rattle.rules.specs.Stock.{Whole, Paused, Late, Closed, stateOf, figuresOf}
 use Rattle.rules.specs.Moments.{mark-p}
-use Rattle.rules.specs.Numbers.{notPrimary, ownChecks}
+use Rattle.rules.specs.Numbers.{notPrimary, ownChecks, fresh}
 use Rattle.rules.specs.Machine.{Event, message, moment, Every, Lawful, becomes, left}
 use Rattle.rules.specs.Book.{machine, Story}
-use Rattle.rules.specs.Readings.{IsOneOf, Leads, letterOf, leadsTo, stateTable, rowOf, markOf}
-use Rattle.rules.specs.Demands.{Next, PausesEnd, NeverAgain}
+use Rattle.rules.specs.Readings.{IsOneOf, Leads, letterOf, stateTable, rowOf, markOf}
+use Rattle.rules.specs.Pauses.{inPause}
+use Rattle.rules.specs.Demands.{leaves, CanHappen, PausesEnd, NeverAgain}
+use Rattle.rules.specs.declared.Setup.{Setup}
 use Rattle.rules.specs.declared.Notice.{Notice}
 use Rattle.rules.specs.declared.Message.{Message}
 use Rattle.rules.specs.declared.Message.the-variants.{Trade as T, Quote as Q, Opening as O, Pause as P, Reopening as R, Closing as X}
+use Rattle.rules.proofs.Events.{first-lawful, rest-lawful}
 use Rattle.rules.proofs.MomentRows.{IsRow, row-z, row-w-early, row-w-late, row-x, row-p, row-c, row-v, row-f, row-h, notice-row}
 use Rattle.rules.proofs.Passed.{told}
-use Rattle.rules.proofs.StateTable.{states}
-use Rattle.forms.specs.Choice.{if_then_else_}
+use Rattle.rules.proofs.PausedSince.{leads, paused-since}
+use Rattle.rules.proofs.Last.{clock}
 
 -- ------------------------------------------------------------------ from Paused
 
--- the table of event by state, for an event of a known letter in a known state
-leads : (h : Whole) (e : Event Message Notice) (letter state : ℕ) → Next h e → letterOf e ≡ letter → stateOf (h .stock) ≡ state
-    → IsOneOf (stateOf (becomes machine h e .stock)) (leadsTo letter state)
-leads h e letter state v l s =
-    subst (λ k. IsOneOf (stateOf (becomes machine h e .stock)) (leadsTo letter k)) s
-    (subst (λ k. IsOneOf (stateOf (becomes machine h e .stock)) (leadsTo k (stateOf (h .stock)))) l (states h e v))
-
-abbrev Resumed : Whole → Event Message Notice → Type 0
-Resumed h e =
+-- it stays, or the primary of the setup reopens it, or p ends it, by the date that the stock records
+abbrev Resumed : Setup → Whole → Event Message Notice → Type 0
+Resumed u h e =
     (stateOf (becomes machine h e .stock) ≡ Paused)
-    ⊎ ((time price : ℕ) × (e ≡ message (R time (h .stock .setup .primary) price)) × (h .stock .course .pause + 300_000 ≤ time))
+    ⊎ ((time price : ℕ) × (e ≡ message (R time (u .primary) price)) × (h .stock .course .pause + 300_000 ≤ time))
     ⊎ ((n : Notice) × (e ≡ moment n) × (markOf n ≡ mark-p) × (n .moment .time ≡ h .stock .course .pause + 600_000))
 
 only : (x y : ℕ) → IsOneOf x (y ∷ []) → x ≡ y
 only x y (inl e) = e
 only x y (inr e) = absurd e
 
-by-row : (h : Whole) (n : Notice) → Next h (moment n) → stateOf (h .stock) ≡ Paused → IsRow (figuresOf (h .window)) (h .stock) (n .moment) → Resumed h (moment n)
+by-row : (h : Whole) (n : Notice) → CanHappen h (moment n) → stateOf (h .stock) ≡ Paused
+    → IsRow (figuresOf (h .window)) (h .stock) (n .moment) → Resumed (h .stock .setup) h (moment n)
 unfolding stateTable rowOf if_then_else_
 by-row h n v s (row-z k t a) = absurd (omega arith)
 by-row h n v s (row-w-early k t c a) = inl (only _ _ (leads h (moment n) _ _ v k s))
@@ -56,18 +55,28 @@ by-row h n v s (row-v k t a c) = inl (only _ _ (leads h (moment n) _ _ v k s))
 by-row h n v s (row-f k t a c) = absurd (omega arith)
 by-row h n v s (row-h k t a b c) = inl (only _ _ (leads h (moment n) _ _ v k s))
 
-pub resumes : PausesEnd
+-- an event, whatever story came before it
+by-event : (h : Whole) (e : Event Message Notice) → CanHappen h e → stateOf (h .stock) ≡ Paused → Resumed (h .stock .setup) h e
 unfolding stateTable rowOf if_then_else_ ownChecks notPrimary
-resumes h (message (T time price)) v s = absurd (leads h (message (T time price)) _ _ v refl s)
-resumes h (message (Q time participant bid offer)) v s = inl (only _ _ (leads h (message (Q time participant bid offer)) _ _ v refl s))
-resumes h (message (O time participant price)) v s = absurd (leads h (message (O time participant price)) _ _ v refl s)
-resumes h (message (P time participant)) v s = absurd (leads h (message (P time participant)) _ _ v refl s)
-resumes h (message (R time participant price)) v s =
+by-event h (message (T time price)) v s = absurd (leads h (message (T time price)) _ _ v refl s)
+by-event h (message (Q time participant bid offer)) v s = inl (only _ _ (leads h (message (Q time participant bid offer)) _ _ v refl s))
+by-event h (message (O time participant price)) v s = absurd (leads h (message (O time participant price)) _ _ v refl s)
+by-event h (message (P time participant)) v s = absurd (leads h (message (P time participant)) _ _ v refl s)
+by-event h (message (R time participant price)) v s =
     let passed = told (R time participant price) h (v .0) in
     let primary : participant ≡ h .stock .setup .primary = eq-of-not _ _ (passed .from-primary) in
     inr (inl (time, price, ap (λ p. message (R time p price)) primary, ltb-false _ _ (beyond 0 _ 10 _ tt (passed .own-passes) .0)))
-resumes h (message (X time participant price)) v s = absurd (leads h (message (X time participant price)) _ _ v refl s)
-resumes h (moment n) v s = by-row h n v s (notice-row h n v)
+by-event h (message (X time participant price)) v s = absurd (leads h (message (X time participant price)) _ _ v refl s)
+by-event h (moment n) v s = by-row h n v s (notice-row h n v)
+
+pub resumes : PausesEnd
+unfolding fresh inPause anyOf if_then_else_
+resumes end u es a s =
+    let h = leaves end u es in (
+      h .stock .course .pause,
+      paused-since (fresh end u) es refl (a .lawful) (rw s),
+      λ e v. subst (λ w. Resumed w h e) (clock end u es a .1) (by-event h e v s),
+    )
 
 -- ------------------------------------------------------------------ from a Late pause
 
@@ -99,7 +108,7 @@ all-end = never │ stays │ never │ never │ never │ closes │ never │
     closes : {a b c d : List ℕ} → Ends (a ∷ b ∷ c ∷ d ∷ (Closed ∷ []) ∷ [] ∷ [])
     closes = record { from-late = λ s o. inr (only s Closed o); from-closed = λ s o. absurd o }
 
-over : (h : Whole) (e : Event Message Notice) → Next h e → Over (stateOf (h .stock)) → Over (stateOf (becomes machine h e .stock))
+over : (h : Whole) (e : Event Message Notice) → CanHappen h e → Over (stateOf (h .stock)) → Over (stateOf (becomes machine h e .stock))
 over h e v o = go o (in-row Ends (letterOf e) stateTable (record { from-late = λ s z. absurd z; from-closed = λ s z. absurd z }) all-end)
   where
     go : Over (stateOf (h .stock)) → Ends (rowOf (letterOf e) stateTable) → Over (stateOf (becomes machine h e .stock))
@@ -111,5 +120,4 @@ never-again h es v l = go h es v (inl l)
   where
     go : (h : Whole) (es : Story) → Lawful machine h es → Over (stateOf (h .stock)) → Over (stateOf (left machine h es .stock))
     go h [] v o = o
-    go h (message m ∷ es) v o = go (becomes machine h (message m)) es (v .1) (over h (message m) (v .0, tt) o)
-    go h (moment n ∷ es) v o = go (becomes machine h (moment n)) es (v .2) (over h (moment n) (v .0, v .1, tt) o)
+    go h (e ∷ es) v o = go (becomes machine h e) es (rest-lawful h e es v) (over h e (first-lawful h e es v) o)

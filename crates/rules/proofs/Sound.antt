@@ -17,11 +17,11 @@ use Rattle.forms.proofs.Checks.{passed}
 use Rattle.band.proofs.Laws.{mean-least, mean-most}
 use Rattle.rules.specs.Stock.{Trade, Whole, Trading, Limit, Paused, Late, Closed, stateOf, clockOf, at-time, enter-pause, not-early, refer-to, total, figuresOf, noTrades, meanIn, staying}
 use Rattle.rules.specs.States.{look, begin-trading, leave, test, begin-pause, shut}
-use Rattle.rules.specs.Moments.{first-five, effect, windowAfter, come}
+use Rattle.rules.specs.Moments.{first-five, effect, windowAfter, come, nextOf, fire}
 use Rattle.rules.specs.Messages.{timeOf, tradeRules, quoteRules, with-quote, does, after}
 use Rattle.rules.specs.Numbers.{notPrice, badEnd, badSetup, badTimes, orNotSide, badQuotes, badReference, badTrade, see, badTrades, rubbish, outOfRange, ownChecks, tells, settleChecks, settles, fresh}
 use Rattle.rules.specs.Machine.{Every, message, moment, Lawful, left}
-use Rattle.rules.specs.Book.{nextOf, fire, machine, Story}
+use Rattle.rules.specs.Book.{machine, Story}
 use Rattle.rules.specs.Demands.{leaves, NeverRubbish, Settling}
 use Rattle.rules.specs.declared.Setup.{Setup}
 use Rattle.rules.specs.declared.Stock.{Stock}

@@ -13,12 +13,12 @@ use Rattle.forms.specs.Choice.{if_then_else_, allOf, anyOf}
 use Rattle.forms.proofs.Choice.{both-arms, if-true, if-yes, if-arms, all-head, all-yes, all-empty}
 use Rattle.rules.specs.Stock.{Whole, Waiting, Trading, Limit, stateOf, is, in-state, at-time, refer-to}
 use Rattle.rules.specs.States.{look, begin-trading, leave, test, begin-pause, shut}
-use Rattle.rules.specs.Moments.{mark-z, mark-w, mark-x, mark-p, mark-c, mark-v, mark-f, mark-h, first-five, effect, come}
+use Rattle.rules.specs.Moments.{mark-z, mark-w, mark-x, mark-p, mark-c, mark-v, mark-f, mark-h, first-five, effect, come, fire}
+use Rattle.rules.specs.Numbers.{notice}
 use Rattle.rules.specs.Messages.{kind, taken, tradeRules, quoteRules, does, after}
 use Rattle.rules.specs.Machine.{message, moment}
-use Rattle.rules.specs.Book.{fire, notice}
-use Rattle.rules.specs.Readings.{IsOneOf, isTaken, inWords, letterOf, trading, pausing, stateTable, rowOf, leadsTo}
-use Rattle.rules.specs.Examples.{sameNumbers}
+use Rattle.rules.specs.Readings.{IsOneOf, isTaken, inWords, letterOf, tradingOrLimit, pausing, stateTable, rowOf, leadsTo}
+use Rattle.rules.specs.Days.{sameNumbers}
 use Rattle.rules.specs.Demands.{StatesFollow, TableInWords}
 use Rattle.rules.specs.declared.Stock.{Stock}
 use Rattle.rules.specs.declared.Figures.{Figures}
@@ -56,13 +56,13 @@ Goes s states = IsOneOf (stateOf s) states
 
 -- from each state: looking at the quotes may turn Trading into Limit; a trade may end Waiting, and a quote Limit
 looked : ℕ → List ℕ
-looked state = if eqb state 1 then trading else state ∷ []
+looked state = if eqb state 1 then tradingOrLimit else state ∷ []
 
 traded : ℕ → List ℕ
-traded state = if eqb state 0 then 0 ∷ trading else looked state
+traded state = if eqb state 0 then 0 ∷ tradingOrLimit else looked state
 
 quoted : ℕ → List ℕ
-quoted state = if eqb state 2 then trading else looked state
+quoted state = if eqb state 2 then tradingOrLimit else looked state
 
 not-looked : (s : Stock) → Goes s (looked (stateOf s))
 unfolding looked
@@ -71,35 +71,35 @@ not-looked s = if-arms (Goes s) _ (λ t. inl (eqb-true _ 1 t)) (λ _. inl refl)
 look-leads : (s : Stock) → Goes (look s) (looked (stateOf s))
 unfolding look looked
 look-leads s = if-arms (λ s′. Goes s′ (looked (stateOf s))) _
-    (λ t. rw (if-true (is Trading s) trading (stateOf s ∷ []) (all-head _ _ t)) (inr (inl refl))) (λ _. not-looked s)
+    (λ t. rw (if-true (is Trading s) tradingOrLimit (stateOf s ∷ []) (all-head _ _ t)) (inr (inl refl))) (λ _. not-looked s)
 
 test-leads : (f : Figures) (s : Stock) → Goes (test f s) (looked (stateOf s))
 unfolding test
 test-leads f s = if-arms (λ s′. Goes s′ (looked (stateOf s))) _ (λ _. look-leads _) (λ _. not-looked s)
 
-trading-leads : (price : ℕ) (s : Stock) → Goes (begin-trading price s) trading
+trading-leads : (price : ℕ) (s : Stock) → Goes (begin-trading price s) tradingOrLimit
 unfolding begin-trading looked if_then_else_
 trading-leads price s = look-leads (in-state Trading (refer-to price s))
 
 trade-leads : (f : Figures) (s : Stock) → Goes (tradeRules f s) (traded (stateOf s))
 unfolding tradeRules traded
 trade-leads f s = both-arms Goes (is Waiting s)
-    (λ t. if-arms (λ s′. Goes s′ (0 ∷ trading)) _ (λ _. inr (trading-leads _ s)) (λ _. inl (eqb-true _ 0 t)))
+    (λ t. if-arms (λ s′. Goes s′ (0 ∷ tradingOrLimit)) _ (λ _. inr (trading-leads _ s)) (λ _. inl (eqb-true _ 0 t)))
     (λ _. test-leads f s)
 
 quote-leads : (f : Figures) (s : Stock) → Goes (quoteRules f s) (quoted (stateOf s))
 unfolding quoteRules quoted leave
 quote-leads f s = both-arms Goes (is Limit s)
-    (λ t. if-arms (λ s′. Goes s′ trading) _ (λ _. inr (inl (eqb-true _ 2 t))) (λ _. trading-leads _ s))
+    (λ t. if-arms (λ s′. Goes s′ tradingOrLimit) _ (λ _. inr (inl (eqb-true _ 2 t))) (λ _. trading-leads _ s))
     (λ _. look-leads s)
 
 pause-leads : (s : Stock) → Goes (begin-pause s) pausing
 unfolding begin-pause
 pause-leads s = if-arms (λ state. IsOneOf state pausing) _ (λ _. inr (inl refl)) (λ _. inl refl)
 
-five-leads : (f : Figures) (s : Stock) → Goes (first-five f s) (stateOf s ∷ trading)
+five-leads : (f : Figures) (s : Stock) → Goes (first-five f s) (stateOf s ∷ tradingOrLimit)
 unfolding first-five
-five-leads f s = if-arms (λ s′. Goes s′ (stateOf s ∷ trading)) _ (λ _. inl refl) (λ _. inr (trading-leads _ _))
+five-leads f s = if-arms (λ s′. Goes s′ (stateOf s ∷ tradingOrLimit)) _ (λ _. inl refl) (λ _. inr (trading-leads _ _))
 
 -- ------------------------------------------------------------------ they are those of the table
 
@@ -134,17 +134,17 @@ only states state = states
 record Agrees : Type 0 where
   for-t : agrees 84 (takes 0) traded ≡ true
   for-q : agrees 81 (takes 1) quoted ≡ true
-  for-o : agrees 79 (takes 2) (only trading) ≡ true
+  for-o : agrees 79 (takes 2) (only tradingOrLimit) ≡ true
   for-p : agrees 80 (takes 3) (only pausing) ≡ true
-  for-r : agrees 82 (takes 4) (only trading) ≡ true
+  for-r : agrees 82 (takes 4) (only tradingOrLimit) ≡ true
   for-x : agrees 88 (takes 5) (only (5 ∷ [])) ≡ true
   at-z : agrees mark-z (λ state. leb state 2) (only (5 ∷ [])) ≡ true
   at-w : agrees mark-w (λ state. leb state 4) looked ≡ true
   at-x : agrees mark-x (λ state. eqb state 2) (only pausing) ≡ true
-  at-p : agrees mark-p (λ state. eqb state 3) (only trading) ≡ true
+  at-p : agrees mark-p (λ state. eqb state 3) (only tradingOrLimit) ≡ true
   at-c : agrees mark-c (λ state. eqb state 4) (only (5 ∷ [])) ≡ true
   at-v : agrees mark-v (λ state. leb state 4) looked ≡ true
-  at-f : agrees mark-f (λ state. eqb state 0) (λ state. state ∷ trading) ≡ true
+  at-f : agrees mark-f (λ state. eqb state 0) (λ state. state ∷ tradingOrLimit) ≡ true
   at-h : agrees mark-h (λ state. allOf (leb 1 state ∷ leb state 4 ∷ [])) looked ≡ true
 
 all-agree : Agrees
@@ -180,9 +180,9 @@ message-leads : (m : Message) (h : Whole) → taken (kind m) (stateOf (h .stock)
 unfolding after does shut
 message-leads (T time price) h e = rw (told-to 0 84 traded (all-agree .for-t) _ e) (trade-leads _ _)
 message-leads (Q time participant bid offer) h e = rw (told-to 1 81 quoted (all-agree .for-q) _ e) (quote-leads _ _)
-message-leads (O time participant price) h e = rw (told-to 2 79 (only trading) (all-agree .for-o) _ e) (trading-leads _ _)
+message-leads (O time participant price) h e = rw (told-to 2 79 (only tradingOrLimit) (all-agree .for-o) _ e) (trading-leads _ _)
 message-leads (P time participant) h e = rw (told-to 3 80 (only pausing) (all-agree .for-p) _ e) (pause-leads _)
-message-leads (R time participant price) h e = rw (told-to 4 82 (only trading) (all-agree .for-r) _ e) (trading-leads _ _)
+message-leads (R time participant price) h e = rw (told-to 4 82 (only tradingOrLimit) (all-agree .for-r) _ e) (trading-leads _ _)
 message-leads (X time participant price) h e = rw (told-to 5 88 (only (5 ∷ [])) (all-agree .for-x) _ e) (inl refl)
 
 moment-leads : (m : Moment) (f g : Figures) (s : Stock) → IsRow f s m

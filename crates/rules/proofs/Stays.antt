@@ -3,24 +3,23 @@
 -- Assumes nothing.
 use Prim.Native.Nat.{ℕ}
 use mathlib.Core.Bool.{Bool, true, false, true≢false}
-use mathlib.Core.List.{List, [], _∷_}
+use mathlib.Core.List.{[], _∷_}
 use mathlib.Core.Logic.{_↔_, _⊎_, inl, inr}
 use mathlib.Core.Path.{_≡_, refl, sym, _∙_}
 use native.Mathlib.Decide.{ℕ-discrete}
 use native.Mathlib.Omega.{arith}
 use borrow.Author.Tests.{eqb-true, eq-eqb}
-use lib.Dec.{eqb}
-use Rattle.forms.specs.Choice.{if_then_else_, allOf}
-use Rattle.forms.proofs.Choice.{if-true, if-false, if-arms, all-head}
+use Rattle.forms.specs.Choice.{if_then_else_}
+use Rattle.forms.proofs.Choice.{if-true, if-false, if-arms, all-head, all-eqb}
 use Rattle.rules.specs.Stock.{in-state, refer-to, Whole, Waiting, Trading, Limit, stateOf, clockOf, at-time, hold-ended, figuresOf}
 use Rattle.rules.specs.Quotes.{atLimit}
 use Rattle.rules.specs.States.{look, begin-trading, leave, test, begin-pause, shut}
-use Rattle.rules.specs.Moments.{mark-p, mark-f, momentTable, next, effect, come}
+use Rattle.rules.specs.Moments.{mark-p, mark-f, momentTable, next, effect, come, nextOf, fire}
 use Rattle.rules.specs.Messages.{kind, taken, tradeRules, quoteRules, with-quote, does, after}
 use Rattle.rules.specs.Numbers.{tells}
 use Rattle.rules.specs.Machine.{Event, message, moment, dated, Lawful, becomes, left}
-use Rattle.rules.specs.Book.{nextOf, fire, machine, Story}
-use Rattle.rules.specs.Readings.{Leaves}
+use Rattle.rules.specs.Book.{machine, Story}
+use Rattle.rules.specs.Readings.{EndsLimit}
 use Rattle.rules.specs.Pauses.{Lasts, LimitSince}
 use Rattle.rules.specs.declared.Stock.{Stock}
 use Rattle.rules.specs.declared.Figures.{Figures}
@@ -95,13 +94,9 @@ pub by-row : (h : Whole) → IsMoment (nextOf h) → (F : Moment → Type 0) →
 unfolding next
 by-row h m F rows = one-of F (momentTable (figuresOf (h .window)) (h .stock)) rows m
 
--- the first test of a row, as `omega` reads it
-all-equal : (a b : ℕ) (bs : List Bool) → allOf (eqb a b ∷ bs) ≡ true → a ≡ b
-all-equal a b bs e = eqb-true a b (all-head _ _ e)
-
 no-p-no-f : (h : Whole) → IsMoment (nextOf h) → stateOf (h .stock) ≡ Limit → (nextOf h .mark ≡ mark-p → ⊥) × (nextOf h .mark ≡ mark-f → ⊥)
 unfolding momentTable
-no-p-no-f h m l = by-row h m (λ m. (m .mark ≡ mark-p → ⊥) × (m .mark ≡ mark-f → ⊥)) (omega (arith, eqb-true, all-equal))
+no-p-no-f h m l = by-row h m (λ m. (m .mark ≡ mark-p → ⊥) × (m .mark ≡ mark-f → ⊥)) (omega (arith, eqb-true, all-eqb))
 
 trade-same : (f : Figures) (s : Stock) → stateOf s ≡ Limit → tradeRules f s ≡ s
 unfolding tradeRules
@@ -125,8 +120,8 @@ taken-in-limit m h e l = rw l at (told m h e .state-takes)
 
 -- an event that ends in Limit has entered it, at its own date, or has kept the stay
 pub data Ends (e : Event Message Notice) (h : Whole) : Type 0 where
-  enters : (stateOf (h .stock) ≡ Limit → ⊥) ⊎ Leaves e h → becomes machine h e .stock .course .entry ≡ dated machine e → Ends e h
-  keeps : stateOf (h .stock) ≡ Limit → (Leaves e h → ⊥) → Fixed (h .stock) (becomes machine h e .stock) → Ends e h
+  enters : (stateOf (h .stock) ≡ Limit → ⊥) ⊎ EndsLimit e h → becomes machine h e .stock .course .entry ≡ dated machine e → Ends e h
+  keeps : stateOf (h .stock) ≡ Limit → (EndsLimit e h → ⊥) → Fixed (h .stock) (becomes machine h e .stock) → Ends e h
 
 module _ (h : Whole) where
   event-new : (e : Event Message Notice) → (stateOf (h .stock) ≡ Limit → ⊥) → New (becomes machine h e .stock)
@@ -195,7 +190,7 @@ module _ (u : ℕ) (h : Whole) (e : Event Message Notice) (es : Story) (v : Lawf
       go (keeps i n p) = p .0 ∙ k .1
   one-less (inr (inl k)) = inl (k .2, go (k .1) (ends h e es v (lasts-start _ es (k .2))))
     where
-      go : (stateOf (h .stock) ≡ Limit → ⊥) ⊎ Leaves e h → Ends e h → becomes machine h e .stock .course .entry ≡ u
+      go : (stateOf (h .stock) ≡ Limit → ⊥) ⊎ EndsLimit e h → Ends e h → becomes machine h e .stock .course .entry ≡ u
       go q (enters n p) = p ∙ k .0
       go (inl q) (keeps i n p) = absurd (q i)
       go (inr q) (keeps i n p) = absurd (n q)

@@ -14,11 +14,11 @@ use Rattle.forms.proofs.Choice.{if-arms, ne-not, all-yes, all-empty, all-head, 
 use Rattle.forms.proofs.Tables.{_│_}
 use Rattle.rules.specs.Stock.{Trade, Whole, Waiting, Trading, Limit, Paused, Late, stateOf, clockOf, with-quotes, with-reference, at-time, enter-pause, not-early, oldest, figuresOf, staying}
 use Rattle.rules.specs.States.{look, begin-trading, leave, test, begin-pause, shut}
-use Rattle.rules.specs.Moments.{mark-x, mark-p, mark-f, momentTable, next, pastAt, first-five, effect, windowAfter, come}
+use Rattle.rules.specs.Moments.{mark-x, mark-p, mark-f, momentTable, next, pastAt, first-five, effect, windowAfter, come, nextOf, fire}
 use Rattle.rules.specs.Messages.{table, kind, timeOf, taken, tradeRules, quoteRules, opened, does, after}
 use Rattle.rules.specs.Numbers.{tells, settles, outOfRange, fresh}
 use Rattle.rules.specs.Machine.{message, moment, Lawful, left}
-use Rattle.rules.specs.Book.{nextOf, fire, machine, Story}
+use Rattle.rules.specs.Book.{machine, Story}
 use Rattle.rules.specs.declared.Setup.{Setup}
 use Rattle.rules.specs.declared.Reference.{Reference}
 use Rattle.rules.specs.declared.Quotes.{Quotes}

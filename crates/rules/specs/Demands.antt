@@ -14,32 +14,37 @@ use Rattle.forms.specs.Tables.{every}
 use Rattle.band.specs.Band.{percentOf, factorOf, bandsOf}
 use Rattle.band.specs.declared.Limits.{Limits}
 use Rattle.rules.specs.Stock.{Whole, Trading, Limit, Paused, Late, Closed, stateOf, clockOf, at-time}
-use Rattle.rules.specs.Quotes.{inForce, bandsIn, atLimit}
-use Rattle.rules.specs.Moments.{mark-p, mark-f}
+use Rattle.rules.specs.Quotes.{inForce, bandsIn, bestOf, atLimit, crossed}
+use Rattle.rules.specs.Moments.{mark-p, mark-f, fire}
 use Rattle.rules.specs.Messages.{taken, with-quote}
-use Rattle.rules.specs.Numbers.{badEnd, badSetup, rubbish, checks, tells, settleChecks, settles, settleAnswer, fresh}
-use Rattle.rules.specs.Machine.{Call, On, Event, message, moment, messages, notices, Lawful, becomes, left, Calls, stock, numberIn, stepIn}
-use Rattle.rules.specs.Book.{machine, Story, Accepted, noSetup, blank, now, story, Settled}
-use Rattle.rules.specs.Readings.{joined, recent, lastQuote, IsOneOf, IsBest, Starts, Refers, inWords, letterOf, leadsTo, markOf, IsDated, lastDate, Leaves, countOf, Moments}
-use Rattle.rules.specs.Pauses.{before, PauseAt, LimitSince}
-use Rattle.rules.specs.Examples.{right, byHand, asPrinted, days, asRefused, edges}
+use Rattle.rules.specs.Numbers.{badEnd, badSetup, badShape, rubbish, checks, tells, settleChecks, settles, answer, afterSettling, notice, settleAnswer, fresh}
+use Rattle.rules.specs.Machine.{Machine, MachineLaws, Alike, Call, tell, settle, On, Event, message, moment, messages, notices, dated, Lawful, becomes, left, Calls, stock, numberIn, stepIn}
+use Rattle.rules.specs.Book.{machine, Story, Accepted, noSetup, blank, now, story, Settled, bookTells, bookSettles}
+use Rattle.rules.specs.Readings.{joined, recent, lastQuote, IsOneOf, IsBest, Starts, Refers, Referred, StartedBy, inWords, letterOf, leadsTo, markOf, IsDated, lastDate, EndsLimit, countOf, MomentsOnly}
+use Rattle.rules.specs.Pauses.{before, PauseAt, LimitSince, PausedSince}
+use Rattle.rules.specs.Examples.{right, byHand}
+use Rattle.rules.specs.Days.{asPrinted, days}
+use Rattle.rules.specs.Edges.{asAnswered, edges}
 use Rattle.rules.specs.declared.Setup.{Setup}
 use Rattle.rules.specs.declared.Stock.{Stock}
+use Rattle.rules.specs.declared.Answer.{Answer}
 use Rattle.rules.specs.declared.Notice.{Notice}
 use Rattle.rules.specs.declared.Message.{Message}
 use Rattle.rules.specs.declared.Message.the-variants.{Trade as T, Quote as Q, Reopening as R}
 
+-- A story of a stock whose setup and session's end are in range, in a row that the rules allow.
 pub record Allowed (end : ℕ) (u : Setup) (es : Story) : Type 0 where
   pub end-ok : badEnd end ≡ false
   pub setup-ok : badSetup u ≡ false
   pub lawful : Lawful machine (fresh end u) es
 
+-- The stock that it leaves.
 abbrev pub leaves : ℕ → Setup → Story → Whole
 leaves end u es = left machine (fresh end u) es
 
--- an event that the rules allow next
-abbrev pub Next : Whole → Event Message Notice → Type 0
-Next h e = Lawful machine h (e ∷ [])
+-- An event that the rules allow next.
+abbrev pub CanHappen : Whole → Event Message Notice → Type 0
+CanHappen h e = Lawful machine h (e ∷ [])
 
 -- ---------------------------------------------------------------- a book and its stocks
 
@@ -49,18 +54,33 @@ ByStory = (end : ℕ) (us : List Setup) → Accepted end us → (cs : Calls mach
     → Allowed end (getD us i noSetup) (story end us cs i)
     × (now end us cs i ≡ leaves end (getD us i noSetup) (story end us cs i))
 
--- A refused call changes nothing, and an accepted one nothing but the stock that it names.
+-- A refused call changes nothing.
 abbrev pub Refused : Type 0
 Refused = (end : ℕ) (b : List Whole) (c : On (Call Message)) → (numberIn machine (blank end) b c ≡ 0 → ⊥)
     → stepIn machine (blank end) b c ≡ b
 
+-- An accepted call changes nothing but the stock that it names.
 abbrev pub OthersStay : Type 0
 OthersStay = (end : ℕ) (b : List Whole) (c : On (Call Message)) (i : ℕ) → (i ≡ c .at → ⊥)
     → stock machine (blank end) (stepIn machine (blank end) b c) i ≡ stock machine (blank end) b i
 
+-- A call's number, with the stock that it names as the call leaves it.
+abbrev pub shown : ℕ → List Whole → On (Call Message) → Answer
+shown end b c = answer (numberIn machine (blank end) b c) (stock machine (blank end) (stepIn machine (blank end) b c) (c .at) .stock)
+
+-- A book of the right shape answers with these: 3 for a stock that there is not.
+abbrev pub BookAnswers : Type 0
+BookAnswers = (end : ℕ) (b : List Whole) (times prices i : ℕ) → badShape (length b) times prices ≡ false
+    → ((m : Message) → bookTells end b times prices i m ≡ shown end b (record { at = i; it = tell m }))
+    × ((time : ℕ) → bookSettles end b times prices i time .answer ≡ shown end b (record { at = i; it = settle time }))
+
 -- No call ever makes rubbish.
 abbrev pub NeverRubbish : Type 0
 NeverRubbish = (end : ℕ) (u : Setup) (es : Story) → Allowed end u es → rubbish (leaves end u es) ≡ false
+
+-- What the next statement says holds of any machine with seven laws; the stock of the rules has them.
+abbrev pub OfAnyMachine : Type 1
+OfAnyMachine = (𝓜 : Machine) → MachineLaws 𝓜 → (blank : 𝓜 .Stock) → Alike 𝓜 blank
 
 -- The same messages to each stock, both books settled to one time and not beyond: equal stocks and equal dated notices.
 abbrev pub SettledAlike : Type 0
@@ -69,13 +89,14 @@ SettledAlike = (end : ℕ) (us : List Setup) (cs ds : Calls machine) (time : ℕ
     → (i : ℕ) → i < length us
     → (now end us cs i ≡ now end us ds i) × (notices (story end us cs i) ≡ notices (story end us ds i))
 
--- Settling to a time in range does a moment or finds none, and fewer than 2,000 moments happen in a row: so it ends.
+-- Settling to a time in range does a moment or finds none.
 abbrev pub Settling : Type 0
 Settling = (end : ℕ) (u : Setup) (es : Story) → Allowed end u es → (time : ℕ) → time ≤ end + 300_000
     → (settles time (leaves end u es) ≡ 0) ⊎ (settles time (leaves end u es) ≡ 14)
 
+-- Fewer than 2,000 moments happen in a row, so settling ends.
 abbrev pub FewMoments : Type 0
-FewMoments = (end : ℕ) (u : Setup) (es ns : Story) → Allowed end u (es ++ ns) → Moments ns → length ns < 2_000
+FewMoments = (end : ℕ) (u : Setup) (es ns : Story) → Allowed end u (es ++ ns) → MomentsOnly ns → length ns < 2_000
 
 -- ---------------------------------------------------------------- a stock, read off its story
 
@@ -84,21 +105,30 @@ abbrev pub ClockIs : Type 0
 ClockIs = (end : ℕ) (u : Setup) (es : Story) → Allowed end u es
     → (clockOf (leaves end u es .stock) ≡ lastDate 0 es) × (leaves end u es .stock .setup ≡ u) × (leaves end u es .stock .end ≡ end)
 
--- Settled to a time, the held trades are those of the last 300,000 since the last opening.
+-- The held trades are those since the last opening, of the 300,000 before a time that is not after the clock; settled, of the last 300,000.
 abbrev pub HeldTrades : Type 0
 HeldTrades = (end : ℕ) (u : Setup) (es : Story) → Allowed end u es
-    → (time : ℕ) → settles time (leaves end u es) ≡ 14 → clockOf (leaves end u es .stock) ≤ time
-    → leaves end u es .window ≡ recent time (joined [] es)
+    → let h = leaves end u es in
+    ((cut : ℕ) × (cut ≤ clockOf (h .stock)) × (h .window ≡ recent cut (joined [] es)))
+    × ((time : ℕ) → settles time h ≡ 14 → clockOf (h .stock) ≤ time → h .window ≡ recent time (joined [] es))
 
--- Each quote is the participant's last, and 0 before its first.
+-- There are sixteen quotes, each the participant's last, and 0 before its first.
 abbrev pub LastQuotes : Type 0
-LastQuotes = (end : ℕ) (u : Setup) (es : Story) → Allowed end u es → (i : ℕ) → i ≤ 15
+LastQuotes = (end : ℕ) (u : Setup) (es : Story) → Allowed end u es
     → let q = leaves end u es .stock .quotes in
-    (getD (q .bids) i 0 ≡ lastQuote i (0, 0) es .0) × (getD (q .offers) i 0 ≡ lastQuote i (0, 0) es .1)
+    (length (q .bids) ≡ 16) × (length (q .offers) ≡ 16)
+    × ((i : ℕ) → i ≤ 15 → (getD (q .bids) i 0 ≡ lastQuote i (0, 0) es .0) × (getD (q .offers) i 0 ≡ lastQuote i (0, 0) es .1))
 
--- The reference is the price of the last opening, or the mean of the window at its start, or the one before started again.
+-- Each event does to the reference what the rules say of that event, and nothing else changes it.
 abbrev pub ReferenceIs : Type 0
-ReferenceIs = (h : Whole) (e : Event Message Notice) → Next h e → Refers h e (becomes machine h e)
+ReferenceIs = (h : Whole) (e : Event Message Notice) → CanHappen h e → Refers h e (becomes machine h e)
+
+-- It is the price of the last opening, or the mean of the window at its start, or the one before started again, and its start is that
+-- event's date; before the first such event there is none.
+abbrev pub ReferenceSince : Type 0
+ReferenceSince = (end : ℕ) (u : Setup) (es : Story) → Allowed end u es
+    → let r = leaves end u es .stock .reference in
+    ((r ≡ record { price = 0; start = 0; hold = 0 }) × Referred 0 0 (fresh end u) es) ⊎ StartedBy (r .price) (r .start) (fresh end u) es
 
 -- The bands are those of the reference, the close and the k of now; in Limit, of the k of its entry.
 abbrev pub BandsAre : Type 0
@@ -114,15 +144,16 @@ BestQuotes = (s : Stock) → IsBest s
 
 -- The state follows one table of event by state.
 abbrev pub StatesFollow : Type 0
-StatesFollow = (h : Whole) (e : Event Message Notice) → Next h e
+StatesFollow = (h : Whole) (e : Event Message Notice) → CanHappen h e
     → IsOneOf (stateOf (becomes machine h e .stock)) (leadsTo (letterOf e) (stateOf (h .stock)))
 
--- A moment is dated by the rules, and its notice is the same whatever time the call named.
+-- A moment is dated by the rules.
 abbrev pub DatesAre : Type 0
-DatesAre = (h : Whole) (n : Notice) → Next h (moment n) → IsDated n h
+DatesAre = (h : Whole) (n : Notice) → CanHappen h (moment n) → IsDated n h
 
+-- Whatever time the call named, settling gives the moment's notice and does what the moment does.
 abbrev pub SameNotice : Type 0
-SameNotice = (h : Whole) (t t′ : ℕ) → settles t h ≡ 0 → settles t′ h ≡ 0 → settleAnswer t h ≡ settleAnswer t′ h
+SameNotice = (h : Whole) (time : ℕ) → settles time h ≡ 0 → (settleAnswer time h ≡ notice h) × (afterSettling time h ≡ fire h)
 
 -- ---------------------------------------------------------------- messages, trades and pauses
 
@@ -147,12 +178,15 @@ PausesBegin = (end : ℕ) (u : Setup) (es : Story) → Allowed end u es
     → PauseAt t (fresh end u) es
     ↔ ((entered : ℕ) × (t ≡ entered + 15_000) × LimitSince entered (fresh end u) (before t es) × (t < end))
 
--- A paused stock leaves its pause by the primary's reopening, 300,000 or more after its start, or by p, 600,000 after it.
+-- A paused stock leaves its pause by the primary's reopening, 300,000 or more after the event that began the pause, or by p, 600,000 after it.
 abbrev pub PausesEnd : Type 0
-PausesEnd = (h : Whole) (e : Event Message Notice) → Next h e → stateOf (h .stock) ≡ Paused
+PausesEnd = (end : ℕ) (u : Setup) (es : Story) → Allowed end u es
+    → let h = leaves end u es in
+    stateOf (h .stock) ≡ Paused → (begun : ℕ) × PausedSince begun (fresh end u) es
+    × ((e : Event Message Notice) → CanHappen h e
     → (stateOf (becomes machine h e .stock) ≡ Paused)
-    ⊎ ((time price : ℕ) × (e ≡ message (R time (h .stock .setup .primary) price)) × (h .stock .course .pause + 300_000 ≤ time))
-    ⊎ ((n : Notice) × (e ≡ moment n) × (markOf n ≡ mark-p) × (n .moment .time ≡ h .stock .course .pause + 600_000))
+    ⊎ ((time price : ℕ) × (e ≡ message (R time (u .primary) price)) × (begun + 300_000 ≤ time))
+    ⊎ ((n : Notice) × (e ≡ moment n) × (markOf n ≡ mark-p) × (n .moment .time ≡ begun + 600_000)))
 
 -- A Late pause never trades again.
 abbrev pub NeverAgain : Type 0
@@ -161,9 +195,22 @@ NeverAgain = (h : Whole) (es : Story) → Lawful machine h es → stateOf (h .st
 
 -- ---------------------------------------------------------------- Limit and the first five minutes
 
+-- A Trading stock does not stand at a band with a market that is not crossed.
+abbrev pub QuotesLookedAt : Type 0
+QuotesLookedAt = (end : ℕ) (u : Setup) (es : Story) → Allowed end u es
+    → let s = leaves end u es .stock in
+    stateOf s ≡ Trading → (atLimit s ≡ false) ⊎ (crossed (bestOf s) ≡ true)
+
+-- An event that enters Limit leaves flag 3 on a side and a market that is not crossed, and dates the entry.
+abbrev pub LimitEntered : Type 0
+LimitEntered = (h : Whole) (e : Event Message Notice) → CanHappen h e
+    → let s′ = becomes machine h e .stock in
+    stateOf s′ ≡ Limit → (stateOf (h .stock) ≡ Limit → ⊥) ⊎ EndsLimit e h
+    → (atLimit s′ ≡ true) × (crossed (bestOf s′) ≡ false) × (s′ .course .entry ≡ dated machine e)
+
 -- Within a stay in Limit no event changes the reference, its start, or a band.
 abbrev pub LimitHolds : Type 0
-LimitHolds = (h : Whole) (e : Event Message Notice) → Next h e → stateOf (h .stock) ≡ Limit → (Leaves e h → ⊥)
+LimitHolds = (h : Whole) (e : Event Message Notice) → CanHappen h e → stateOf (h .stock) ≡ Limit → (EndsLimit e h → ⊥)
     → let s′ = becomes machine h e .stock in
     stateOf s′ ≡ Limit
     → (s′ .reference .price ≡ h .stock .reference .price) × (s′ .reference .start ≡ h .stock .reference .start) × (bandsIn s′ ≡ bandsIn (h .stock))
@@ -182,24 +229,28 @@ OneF = (end : ℕ) (u : Setup) (es : Story) → Allowed end u es → (time : ℕ
 
 -- ---------------------------------------------------------------- examples
 
--- B1 to B12 in one table, and days as they are printed, document 01's own first.
+-- B1 to B12 in one table.
 abbrev pub ByHand : Type 0
 ByHand = every right byHand ≡ true
 
+-- Days as they are printed, document 01's own first.
 abbrev pub AsPrinted : Type 0
 AsPrinted = every asPrinted days ≡ true
 
--- Records and calls at the edges of what is refused.
-abbrev pub AsRefused : Type 0
-AsRefused = every asRefused edges ≡ true
+-- Records and calls at the edges of what the rules allow.
+abbrev pub AtEdges : Type 0
+AtEdges = every asAnswered edges ≡ true
 
 -- ------------------------------------------------------------------ all of it
 
-pub record Demands : Type 0 where
+pub record Demands : Type 1 where
   pub by-story : ByStory
   pub refused : Refused
   pub others : OthersStay
+  pub answers : BookAnswers
   pub never-rubbish : NeverRubbish
+  pub of-any-machine : OfAnyMachine
+  pub machine-laws : MachineLaws machine
   pub settled-alike : SettledAlike
   pub settling : Settling
   pub few-moments : FewMoments
@@ -207,6 +258,7 @@ pub record Demands : Type 0 where
   pub held-trades : HeldTrades
   pub last-quotes : LastQuotes
   pub reference : ReferenceIs
+  pub reference-since : ReferenceSince
   pub bands : BandsAre
   pub best-quotes : BestQuotes
   pub states : StatesFollow
@@ -218,9 +270,11 @@ pub record Demands : Type 0 where
   pub pauses : PausesBegin
   pub resumes : PausesEnd
   pub never-again : NeverAgain
+  pub looked-at : QuotesLookedAt
+  pub limit-entered : LimitEntered
   pub limit-holds : LimitHolds
   pub quote-in-limit : QuoteInLimit
   pub one-f : OneF
   pub by-hand : ByHand
   pub as-printed : AsPrinted
-  pub as-refused : AsRefused
+  pub at-edges : AtEdges

@@ -10,3 +10,5 @@ pub mod Book
 pub mod Readings
 pub mod Pauses
 pub mod Examples
+pub mod Days
+pub mod Edges

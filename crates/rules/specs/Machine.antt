@@ -1,5 +1,5 @@
 -- One stock as a machine, a book of such machines, and what demands 2 and 3 say of it (the mission's demands; document 01, "What the
--- book holds"). Nothing here depends on what the rules are.
+-- book holds"). Of the rules it has two numbers: 3 for a stock that there is not, and 14 where no moment is due.
 -- Assumes nothing.
 use Prim.Native.Nat.{ℕ, _≤_, _<_}
 use mathlib.Core.List.{List, [], _∷_, _++_}
@@ -29,7 +29,7 @@ pub record Machine : Type 1 where
   pub notice : Stock → Notice
 
 -- What demand 3 needs of the rules.
-pub record Laws (𝓜 : Machine) : Type 0 where
+pub record MachineLaws (𝓜 : Machine) : Type 0 where
   -- a message is accepted at the clock or later, before every moment still to come, and moves the clock to its time
   pub not-back : (m : 𝓜 .Message) (s : 𝓜 .Stock) → 𝓜 .tells m s ≡ 0 → 𝓜 .clock s ≤ 𝓜 .time m
   pub none-due : (m : 𝓜 .Message) (s : 𝓜 .Stock) → 𝓜 .tells m s ≡ 0 → (d : ℕ) → 𝓜 .Due s d → 𝓜 .time m < d
@@ -43,15 +43,18 @@ pub record Laws (𝓜 : Machine) : Type 0 where
 
 -- ------------------------------------------------------------------ what has happened
 
+-- a call on one stock: a message, or settling to a time
 pub data Call (M : Type 0) : Type 0 where
   tell : M → Call M
   settle : ℕ → Call M
 
+-- what happened to one stock: a message was accepted, or a moment was settled
 pub data Event (M N : Type 0) : Type 0 where
   message : M → Event M N
   moment : N → Event M N
 
 module _ {M N : Type 0} where
+  -- the messages among events, and the notices of the moments
   abbrev pub messages : List (Event M N) → List M
   messages [] = []
   messages (message m ∷ es) = m ∷ messages es
@@ -72,6 +75,7 @@ unfoldable pub of : {A : Type 0} → ℕ → List (On A) → List A
 of i [] = []
 of i (x ∷ xs) = (if eqb i (x .at) then x .it ∷ [] else []) ++ of i xs
 
+-- so of each of a list
 abbrev pub Every : {A : Type 0} → (A → Type 0) → List A → Type 0
 Every P [] = Unit {0}
 Every P (x ∷ xs) = P x × Every P xs
@@ -81,9 +85,11 @@ module _ (𝓜 : Machine) where
 
   -- ---------------------------------------------------------------- one stock
 
+  -- what happened to one stock, the first first
   abbrev pub History : Type 0
   History = List (Event Message Notice)
 
+  -- the date of an event
   abbrev pub dated : Event Message Notice → ℕ
   dated (message m) = time m
   dated (moment n) = date n
@@ -94,39 +100,46 @@ module _ (𝓜 : Machine) where
   Lawful s (message m ∷ es) = (tells m s ≡ 0) × Lawful (after m s) es
   Lawful s (moment n ∷ es) = ((t : ℕ) × (settles t s ≡ 0)) × (n ≡ notice s) × Lawful (fire s) es
 
-  -- what an event, and a history, leaves of a stock
+  -- what an event makes of a stock
   abbrev pub becomes : Stock → Event Message Notice → Stock
   becomes s (message m) = after m s
   becomes s (moment n) = fire s
 
+  -- what a history leaves
   abbrev pub left : Stock → History → Stock
   left s [] = s
   left s (e ∷ es) = left (becomes s e) es
 
   -- ---------------------------------------------------------------- a call on one stock
 
+  -- the number that it is answered with
   abbrev pub number : Call Message → Stock → ℕ
   number (tell m) s = tells m s
   number (settle t) s = settles t s
 
+  -- the stock after it, once it is accepted
   abbrev pub done : Call Message → Stock → Stock
   done (tell m) s = after m s
   done (settle t) s = fire s
 
+  -- what has then happened
   abbrev pub event : Call Message → Stock → Event Message Notice
   event (tell m) s = message m
   event (settle t) s = moment (notice s)
 
   -- ---------------------------------------------------------------- a book, and calls that name a stock
 
+  -- its stocks, by their numbers
   abbrev pub Book : Type 0
   Book = List Stock
 
+  -- calls on its stocks
   abbrev pub Calls : Type 0
   Calls = List (On (Call Message))
 
   -- `blank` is read past the end of a book, where nothing is done
   module _ (blank : Stock) where
+    -- the stock of a number
     abbrev pub stock : Book → ℕ → Stock
     stock b i = getD b i blank
 
@@ -138,9 +151,11 @@ module _ (𝓜 : Machine) where
     unfoldable pub stepIn : Book → On (Call Message) → Book
     stepIn b c = if eqb (numberIn b c) 0 then set b (c .at) (done (c .it) (stock b (c .at))) else b
 
+    -- what a call makes happen: nothing where it is refused
     unfoldable pub happens : Book → On (Call Message) → List (On (Event Message Notice))
     happens b c = if eqb (numberIn b c) 0 then record { at = c .at; it = event (c .it) (stock b (c .at)) } ∷ [] else []
 
+    -- the book after calls
     abbrev pub run : Book → Calls → Book
     run b [] = b
     run b (c ∷ cs) = run (stepIn b c) cs
@@ -161,8 +176,8 @@ module _ (𝓜 : Machine) where
         → Lawful (stock b i) (of i (log b cs)) × (stock (run b cs) i ≡ left (stock b i) (of i (log b cs)))
 
     -- the same messages to each stock, both settled to one time: equal stocks and equal dated notices
-    abbrev pub Settled-alike : Type 0
-    Settled-alike = (b : Book) (cs ds : Calls) (T : ℕ) → SettledTo T b cs → SettledTo T b ds
+    abbrev pub Alike : Type 0
+    Alike = (b : Book) (cs ds : Calls) (T : ℕ) → SettledTo T b cs → SettledTo T b ds
         → ((i : ℕ) → messages (of i (log b cs)) ≡ messages (of i (log b ds)))
         → (i : ℕ) → i < length b
         → (stock (run b cs) i ≡ stock (run b ds) i) × (notices (of i (log b cs)) ≡ notices (of i (log b ds)))

@@ -13,7 +13,7 @@ use Rattle.rules.specs.declared.Figures.{Figures}
 use Rattle.rules.specs.declared.Message.{Message}
 use Rattle.rules.specs.declared.Message.the-variants.{Trade as T, Quote as Q, Opening as O, Pause as P, Reopening as R, Closing as X}
 
--- ------------------------------------------------------------------ the table of message by state
+-- ------------------------------------------------------------------ "Messages": the table of message by state
 
 -- the 36 entries: T, Q, O, P, R, X by the states 0 to 5
 abbrev pub table : List (List ℕ)
@@ -26,7 +26,7 @@ table =
     (9 ∷ 9 ∷ 9 ∷ 9 ∷ 0 ∷ 7 ∷ []) ∷
     []
 
--- a message's row
+-- a message's row of the table
 abbrev pub kind : Message → ℕ
 kind (T time price) = 0
 kind (Q time participant bid offer) = 1
@@ -35,15 +35,35 @@ kind (P time participant) = 3
 kind (R time participant price) = 4
 kind (X time participant price) = 5
 
--- its letter, by its code
-abbrev pub letter : Message → ℕ
-letter (T time price) = 84
-letter (Q time participant bid offer) = 81
-letter (O time participant price) = 79
-letter (P time participant) = 80
-letter (R time participant price) = 82
-letter (X time participant price) = 88
+-- the letters, each by its code
+abbrev pub letter-T : ℕ
+letter-T = 84
 
+abbrev pub letter-Q : ℕ
+letter-Q = 81
+
+abbrev pub letter-O : ℕ
+letter-O = 79
+
+abbrev pub letter-P : ℕ
+letter-P = 80
+
+abbrev pub letter-R : ℕ
+letter-R = 82
+
+abbrev pub letter-X : ℕ
+letter-X = 88
+
+-- a message's letter
+abbrev pub letter : Message → ℕ
+letter (T time price) = letter-T
+letter (Q time participant bid offer) = letter-Q
+letter (O time participant price) = letter-O
+letter (P time participant) = letter-P
+letter (R time participant price) = letter-R
+letter (X time participant price) = letter-X
+
+-- its time
 abbrev pub timeOf : Message → ℕ
 timeOf (T time price) = time
 timeOf (Q time participant bid offer) = time
@@ -56,7 +76,7 @@ timeOf (X time participant price) = time
 unfoldable pub taken : ℕ → ℕ → ℕ
 taken kind state = if ltb state 6 then entry table kind state else 7
 
--- ------------------------------------------------------------------ what a message does, the clock being at its time
+-- ------------------------------------------------------------------ "Messages": what each does, the clock being at its time
 
 -- a trade has joined: in Waiting, at 300,000 or later, the mean is the first reference; in Trading the Test follows
 unfoldable pub tradeRules : Figures → Stock → Stock

@@ -11,36 +11,45 @@ use Rattle.rules.specs.declared.Stock.{Stock}
 use Rattle.rules.specs.declared.Figures.{Figures}
 use Rattle.rules.specs.declared.Moment.{Moment}
 
--- ------------------------------------------------------------------ the marks: letters, by their codes
+-- ------------------------------------------------------------------ "Moments": the marks, by the codes of their letters
 
+-- the session's end
 abbrev pub mark-z : ℕ
 mark-z = 122
 
+-- k changes
 abbrev pub mark-w : ℕ
 mark-w = 119
 
+-- a Limit has lasted 15,000
 abbrev pub mark-x : ℕ
 mark-x = 120
 
+-- a pause has lasted 600,000
 abbrev pub mark-p : ℕ
 mark-p = 112
 
+-- a Late pause is over
 abbrev pub mark-c : ℕ
 mark-c = 99
 
+-- the oldest trades leave
 abbrev pub mark-v : ℕ
 mark-v = 118
 
+-- the first 300,000 are over
 abbrev pub mark-f : ℕ
 mark-f = 102
 
+-- the hold is over
 abbrev pub mark-h : ℕ
 mark-h = 104
 
+-- none: zeros
 abbrev pub no-moment : Moment
 no-moment = record { mark = 0; time = 0 }
 
--- ------------------------------------------------------------------ the moments still to come
+-- ------------------------------------------------------------------ "Moments": times, states and order
 
 -- a row of the table: the moment, and whether it is still to come
 pub record Row : Type 0 where
@@ -82,14 +91,15 @@ earliest (r ∷ rs) = sooner r (earliest rs)
 unfoldable pub next : Figures → Stock → Moment
 next f s = earliest (momentTable f s)
 
--- there is a moment, and it is not after `time`; it is before `time`
+-- there is a moment, and it is not after `time`
 unfoldable pub dueBy : ℕ → Moment → Bool
 dueBy time m = allOf (not (eqb (m .mark) 0) ∷ leb (m .time) time ∷ [])
 
+-- there is a moment, and it is before `time`
 unfoldable pub pastAt : ℕ → Moment → Bool
 pastAt time m = allOf (not (eqb (m .mark) 0) ∷ ltb (m .time) time ∷ [])
 
--- ------------------------------------------------------------------ what a moment does, at its own time
+-- ------------------------------------------------------------------ "Moments": what each does, at its own time
 
 -- f: with a trade in the window, Trading with the mean as reference
 unfoldable pub first-five : Figures → Stock → Stock
@@ -119,3 +129,11 @@ unfoldable pub come : Moment → Whole → Whole
 come m h =
     let w = windowAfter m (h .window) in
     record { stock = effect (m .mark) (figuresOf w) (at-time (m .time) (h .stock)); window = w }
+
+-- the earliest moment of a stock with its window
+abbrev pub nextOf : Whole → Moment
+nextOf h = next (figuresOf (h .window)) (h .stock)
+
+-- the stock after it
+unfoldable pub fire : Whole → Whole
+fire h = come (nextOf h) h

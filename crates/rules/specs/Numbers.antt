@@ -1,4 +1,4 @@
--- The checks in their order, and the answers (document 01, "Units and ranges", "Numbers given back").
+-- Ranges, the checks in their order, the answers, and setup (document 01, "Units and ranges", "Numbers given back", "What the book holds").
 -- Assumes nothing.
 use Prim.Native.Nat.{ℕ, _+_, _-_, _*_}
 use mathlib.Core.Bool.{Bool, true, false, not}
@@ -8,10 +8,10 @@ use lib.ListN.{length}
 use Rattle.forms.specs.Choice.{if_then_else_, allOf, anyOf}
 use Rattle.forms.specs.Checks.{Check, first}
 use Rattle.forms.specs.Checks.Check.{_when_}
-use Rattle.rules.specs.Stock.{Trade, Whole, Waiting, Paused, stateOf, clockOf, is, figuresOf}
+use Rattle.rules.specs.Stock.{Trade, Whole, Waiting, Paused, stateOf, clockOf, is}
 use Rattle.rules.specs.Quotes.{inForce, bandsIn, bestOf, straddle}
 use Rattle.rules.specs.States.{noQuotes}
-use Rattle.rules.specs.Moments.{no-moment, next, dueBy, pastAt, come}
+use Rattle.rules.specs.Moments.{no-moment, dueBy, pastAt, nextOf, fire}
 use Rattle.rules.specs.Messages.{kind, timeOf, taken, after}
 use Rattle.rules.specs.declared.Setup.{Setup}
 use Rattle.rules.specs.declared.Quotes.{Quotes}
@@ -71,6 +71,7 @@ badTimes s = anyOf (
 unfoldable pub orNotSide : Bool → ℕ → Bool
 orNotSide bad price = if bad then true else notSide price
 
+-- of all bids and offers
 unfoldable pub badQuotes : Quotes → Bool
 badQuotes q = foldl orNotSide (foldl orNotSide false (q .bids)) (q .offers)
 
@@ -86,17 +87,19 @@ pub record Seen : Type 0 where
   pub bad : Bool
   pub last : ℕ
 
--- a trade is not a price, is after the clock (and so in range), or before the trade ahead of it
+-- its price is out of range, or it is after the clock (so that a time out of range is bad too), or before the trade ahead of it
 unfoldable pub badTrade : ℕ → ℕ → Trade → Bool
 badTrade clock last t = anyOf (notPrice (t .price) ∷ ltb clock (t .at) ∷ ltb (t .at) last ∷ [])
 
+-- one trade more
 unfoldable pub see : ℕ → Seen → Trade → Seen
 see clock seen t = record { bad = if seen .bad then true else badTrade clock (seen .last) t; last = t .at }
 
+-- of all held trades
 unfoldable pub badTrades : ℕ → List Trade → Bool
 badTrades clock w = foldl (see clock) (record { bad = false; last = 0 }) w .bad
 
--- one of these; a pause start of E - 600,000 or later in Paused; a moment still to come that is dated before the clock
+-- a state over 5; one of these; Paused with a pause start of E - 600,000 or later; over 512 trades; a moment still to come and past
 unfoldable pub rubbish : Whole → Bool
 rubbish h = let s = h .stock in anyOf (
     ltb 5 (stateOf s) ∷
@@ -108,10 +111,10 @@ rubbish h = let s = h .stock in anyOf (
     allOf (is Paused s ∷ leb (s .end - 600_000) (s .course .pause) ∷ []) ∷
     ltb 512 (length (h .window)) ∷
     badTrades (clockOf s) (h .window) ∷
-    pastAt (clockOf s) (next (figuresOf (h .window)) s) ∷
+    pastAt (clockOf s) (nextOf h) ∷
     [])
 
--- ------------------------------------------------------------------ the first checks of every call but setup
+-- ------------------------------------------------------------------ "Numbers given back": the first checks of every call but setup
 
 -- 1 to 64 stocks, and 512 places of each array for each
 unfoldable pub badShape : ℕ → ℕ → ℕ → Bool
@@ -129,7 +132,7 @@ callChecks stocks times prices at =
     3 when leb stocks at ∷
     []
 
--- ------------------------------------------------------------------ the checks of a message
+-- ------------------------------------------------------------------ "Numbers given back": the checks of a message
 
 -- 4: a price, a participant or the time is out of range
 unfoldable pub outOfRange : ℕ → Message → Bool
@@ -166,13 +169,13 @@ ownChecks (X time participant price) h = 10 when ltb time (h .stock .end) ∷ []
 abbrev pub tableCheck : ℕ → List Check → List Check
 tableCheck number checks = number when not (eqb number 0) ∷ checks
 
--- in their order
+-- its checks in their order
 unfoldable pub checks : Message → Whole → List Check
 checks m h = let s = h .stock in
     1 when rubbish h ∷
     4 when outOfRange (s .end) m ∷
     5 when ltb (timeOf m) (clockOf s) ∷
-    6 when dueBy (timeOf m) (next (figuresOf (h .window)) s) ∷
+    6 when dueBy (timeOf m) (nextOf h) ∷
     8 when notPrimary (s .setup .primary) m ∷
     tableCheck (taken (kind m) (stateOf s)) (ownChecks m h)
 
@@ -180,21 +183,23 @@ checks m h = let s = h .stock in
 unfoldable pub tells : Message → Whole → ℕ
 tells m h = first (checks m h)
 
--- ------------------------------------------------------------------ the checks of settling
+-- ------------------------------------------------------------------ "Numbers given back": the checks of settling
 
 -- settling does the earliest moment not after the time, or answers 14
 unfoldable pub settleChecks : ℕ → Whole → List Check
 settleChecks time h = let s = h .stock in
     1 when rubbish h ∷
     4 when notTime (s .end) time ∷
-    14 when not (dueBy time (next (figuresOf (h .window)) s)) ∷
+    14 when not (dueBy time (nextOf h)) ∷
     []
 
+-- the number that settling to a time is answered with
 unfoldable pub settles : ℕ → Whole → ℕ
 settles time h = first (settleChecks time h)
 
--- ------------------------------------------------------------------ the answers
+-- ------------------------------------------------------------------ "Numbers given back": the answers
 
+-- no bid and no offer
 abbrev pub noBest : Best
 noBest = record { bid = record { price = 0; flag = 0 }; offer = record { price = 0; flag = 0 } }
 
@@ -212,19 +217,23 @@ answer number s =
 unfoldable pub afterTelling : Message → Whole → Whole
 afterTelling m h = if eqb (tells m h) 0 then after m h else h
 
+-- settling, likewise: its moment has happened
 unfoldable pub afterSettling : ℕ → Whole → Whole
-afterSettling time h = if eqb (settles time h) 0 then come (next (figuresOf (h .window)) (h .stock)) h else h
+afterSettling time h = if eqb (settles time h) 0 then fire h else h
 
+-- what a message is answered: the number, and the stock as it is then
 unfoldable pub tellAnswer : Message → Whole → Answer
 tellAnswer m h = answer (tells m h) (afterTelling m h .stock)
 
-unfoldable pub settleAnswer : ℕ → Whole → Notice
-settleAnswer time h = record {
-  answer = answer (settles time h) (afterSettling time h .stock);
-  moment = if eqb (settles time h) 0 then next (figuresOf (h .window)) (h .stock) else no-moment;
-}
+-- the dated notice of a moment: the answer, with the mark and the time
+unfoldable pub notice : Whole → Notice
+notice h = record { answer = answer 0 (fire h .stock); moment = nextOf h }
 
--- ------------------------------------------------------------------ setup
+-- what settling is answered: the notice, or zeros for the mark and the time where it did no moment
+unfoldable pub settleAnswer : ℕ → Whole → Notice
+settleAnswer time h = if eqb (settles time h) 0 then notice h else record { answer = answer (settles time h) (h .stock); moment = no-moment }
+
+-- ------------------------------------------------------------------ "What the book holds": setup; its checks, "Numbers given back"
 
 -- Waiting, no quotes, every clock 0, no trade
 unfoldable pub fresh : ℕ → Setup → Whole
@@ -239,6 +248,7 @@ fresh end u = record {
   window = [];
 }
 
+-- a setup is out of range
 unfoldable pub orBadSetup : Bool → Setup → Bool
 orBadSetup bad u = if bad then true else badSetup u
 

@@ -1,4 +1,5 @@
--- When a pause that no message declared begins (demand 3, its last sentence).
+-- When a pause begins that no message declared (demand 3, its last sentence; document 01, "Moments": x), and since when a stock is in
+-- Limit or in a pause.
 -- Assumes nothing.
 use Prim.Native.Nat.{ℕ}
 use mathlib.Core.Bool.{Bool, true, false}
@@ -10,32 +11,44 @@ use Rattle.forms.specs.Choice.{if_then_else_, anyOf}
 use Rattle.rules.specs.Stock.{Whole, Limit, Paused, Late, stateOf, is}
 use Rattle.rules.specs.Machine.{message, moment, dated, becomes}
 use Rattle.rules.specs.Book.{machine, Story}
-use Rattle.rules.specs.Readings.{Leaves}
+use Rattle.rules.specs.Readings.{EndsLimit}
 
 -- the events before `time`
 unfoldable pub before : ℕ → Story → Story
 before time [] = []
 before time (e ∷ es) = if ltb (dated machine e) time then e ∷ before time es else []
 
-unfoldable pub paused : Whole → Bool
-paused h = anyOf (is Paused (h .stock) ∷ is Late (h .stock) ∷ [])
+-- in a pause of either kind
+unfoldable pub inPause : Whole → Bool
+inPause h = anyOf (is Paused (h .stock) ∷ is Late (h .stock) ∷ [])
 
 -- a moment of the story, dated `time`, begins a pause
 abbrev pub PauseAt : ℕ → Whole → Story → Type 0
 PauseAt time h [] = ⊥
 PauseAt time h (message m ∷ es) = PauseAt time (becomes machine h (message m)) es
 PauseAt time h (moment n ∷ es) =
-    ((n .moment .time ≡ time) × (paused h ≡ false) × (paused (becomes machine h (moment n)) ≡ true))
+    ((n .moment .time ≡ time) × (inPause h ≡ false) × (inPause (becomes machine h (moment n)) ≡ true))
     ⊎ PauseAt time (becomes machine h (moment n)) es
+
+-- the stock is in a pause, and stays in it to the end of the story
+abbrev pub PauseLasts : Whole → Story → Type 0
+PauseLasts h [] = inPause h ≡ true
+PauseLasts h (e ∷ es) = (inPause h ≡ true) × PauseLasts (becomes machine h e) es
+
+-- an event of the story, dated `time`, began a pause, and that pause has lasted to the story's end
+abbrev pub PausedSince : ℕ → Whole → Story → Type 0
+PausedSince time h [] = ⊥
+PausedSince time h (e ∷ es) =
+    ((dated machine e ≡ time) × (inPause h ≡ false) × PauseLasts (becomes machine h e) es) ⊎ PausedSince time (becomes machine h e) es
 
 -- the stock is in Limit at the end of the story, and no event of it ended that stay
 abbrev pub Lasts : Whole → Story → Type 0
 Lasts h [] = stateOf (h .stock) ≡ Limit
-Lasts h (e ∷ es) = (stateOf (h .stock) ≡ Limit) × (Leaves e h → ⊥) × Lasts (becomes machine h e) es
+Lasts h (e ∷ es) = (stateOf (h .stock) ≡ Limit) × (EndsLimit e h → ⊥) × Lasts (becomes machine h e) es
 
 -- an event of the story, dated `time`, entered a limit state, and that stay has lasted to the story's end
 abbrev pub LimitSince : ℕ → Whole → Story → Type 0
 LimitSince time h [] = ⊥
 LimitSince time h (e ∷ es) =
-    ((dated machine e ≡ time) × ((stateOf (h .stock) ≡ Limit → ⊥) ⊎ Leaves e h) × Lasts (becomes machine h e) es)
+    ((dated machine e ≡ time) × ((stateOf (h .stock) ≡ Limit → ⊥) ⊎ EndsLimit e h) × Lasts (becomes machine h e) es)
     ⊎ LimitSince time (becomes machine h e) es

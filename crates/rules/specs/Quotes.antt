@@ -11,7 +11,7 @@ use Rattle.rules.specs.Stock.{Trading, Limit, is, clockOf}
 use Rattle.rules.specs.declared.Stock.{Stock}
 use Rattle.rules.specs.declared.Best.{Best}
 
--- ------------------------------------------------------------------ bands
+-- ------------------------------------------------------------------ "Quotes and flags": bands in force; "Band arithmetic"
 
 -- bands are in force in Trading and Limit only
 unfoldable pub inForce : Stock → Bool
@@ -28,7 +28,7 @@ bandsIn s =
     bandsOf (s .reference .price) 1 (percentOf (s .setup .tier) (s .setup .close)) (factorOf (s .setup .leverage) (kTime s) (s .end))
     else record { lower = 0; upper = 0 }
 
--- ------------------------------------------------------------------ the best bid and the best offer
+-- ------------------------------------------------------------------ "Quotes and flags": the best bid and the best offer
 
 -- the better of two bids: the higher one, but none above the upper band in force
 unfoldable pub higher : Bool → ℕ → ℕ → ℕ → ℕ
@@ -41,22 +41,24 @@ lesser on lower best offer =
     if eqb best 0 then offer else
     min best offer
 
--- of all participants, 0 where none counts
+-- the best bid of all participants, 0 where none counts
 unfoldable pub bestBid : Bool → ℕ → List ℕ → ℕ
 bestBid on upper bids = foldl (higher on upper) 0 bids
 
+-- the best offer, likewise
 unfoldable pub bestOffer : Bool → ℕ → List ℕ → ℕ
 bestOffer on lower offers = foldl (lesser on lower) 0 offers
 
--- ------------------------------------------------------------------ flags
+-- ------------------------------------------------------------------ "Quotes and flags": the four flags
 
--- 0 absent, 1 plain, 2 non-executable, 3 limit
+-- 0 absent, 1 plain, 2 non-executable, 3 limit: a best bid under the lower band has 2, one at the upper band 3
 unfoldable pub bidFlag : Bool → Limits → ℕ → ℕ
 bidFlag on bands bid =
     if eqb bid 0 then 0 else
     if on then (if ltb bid (bands .lower) then 2 else if eqb bid (bands .upper) then 3 else 1) else
     1
 
+-- a best offer over the upper band has 2, one at the lower band 3
 unfoldable pub offerFlag : Bool → Limits → ℕ → ℕ
 offerFlag on bands offer =
     if eqb offer 0 then 0 else
@@ -80,7 +82,7 @@ flagged flag b = anyOf (eqb (b .bid .flag) flag ∷ eqb (b .offer .flag) flag �
 abbrev pub atLimit : Stock → Bool
 atLimit s = flagged 3 (bestOf s)
 
--- flag 2 on a side
+-- flag 2 on a side ("Messages", P)
 abbrev pub straddle : Stock → Bool
 straddle s = flagged 2 (bestOf s)
 

@@ -1,4 +1,4 @@
--- The state rules (document 01, "States"). Of the window they ask its figures.
+-- The state rules (document 01, "States"; of pauses and closing, "Moments"). Of the window they ask its figures.
 -- Assumes nothing.
 use Prim.Native.Nat.{ℕ, _-_}
 use mathlib.Core.Bool.{not}

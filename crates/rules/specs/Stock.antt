@@ -23,43 +23,55 @@ pub record Whole : Type 0 where
   pub stock : Stock
   pub window : List Trade
 
--- ------------------------------------------------------------------ the states
+-- ------------------------------------------------------------------ "States": their numbers
 
+-- no reference yet
 abbrev pub Waiting : ℕ
 Waiting = 0
 
+-- bands are in force
 abbrev pub Trading : ℕ
 Trading = 1
 
+-- bands are in force, and a best quote is at one
 abbrev pub Limit : ℕ
 Limit = 2
 
+-- a pause that may end in Trading
 abbrev pub Paused : ℕ
 Paused = 3
 
+-- a Late pause, which ends in Closed
 abbrev pub Late : ℕ
 Late = 4
 
+-- for the rest of the day
 abbrev pub Closed : ℕ
 Closed = 5
 
+-- the state that a stock is in
 abbrev pub stateOf : Stock → ℕ
 stateOf s = s .course .state
 
+-- the time of its last accepted message or settled moment
 abbrev pub clockOf : Stock → ℕ
 clockOf s = s .course .clock
 
+-- it is in that state
 abbrev pub is : ℕ → Stock → Bool
 is state s = eqb (stateOf s) state
 
 -- ------------------------------------------------------------------ a stock with something set anew
 
+-- another course: state, clock, and what is kept with them
 abbrev pub with-course : Course → Stock → Stock
 with-course c s = record { setup = s .setup; end = s .end; course = c; reference = s .reference; quotes = s .quotes }
 
+-- other quotes
 abbrev pub with-quotes : Quotes → Stock → Stock
 with-quotes q s = record { setup = s .setup; end = s .end; course = s .course; reference = s .reference; quotes = q }
 
+-- another reference
 abbrev pub with-reference : Reference → Stock → Stock
 with-reference r s = record { setup = s .setup; end = s .end; course = s .course; reference = r; quotes = s .quotes }
 
@@ -69,6 +81,7 @@ at-time time s =
     let c = s .course in
     with-course (record { state = c .state; clock = time; early = c .early; entry = c .entry; pause = c .pause }) s
 
+-- another state
 abbrev pub in-state : ℕ → Stock → Stock
 in-state state s =
     let c = s .course in
@@ -100,11 +113,13 @@ refer-to price s = with-reference (record { price = price; start = clockOf s; ho
 abbrev pub hold-ended : Stock → Stock
 hold-ended s = with-reference (record { price = s .reference .price; start = s .reference .start; hold = 0 }) s
 
--- ------------------------------------------------------------------ the window
+-- ------------------------------------------------------------------ "States": the window
 
+-- the sum of the prices
 unfoldable pub total : List Trade → ℕ
 total w = foldl (λ sum t. sum + t .price) 0 w
 
+-- the time of the oldest trade, 0 where there is none
 unfoldable pub oldest : List Trade → ℕ
 oldest [] = 0
 oldest (t ∷ ts) = t .at
@@ -113,9 +128,11 @@ oldest (t ∷ ts) = t .at
 unfoldable pub figuresOf : List Trade → Figures
 figuresOf w = record { count = length w; oldest = oldest w; sum = total w }
 
+-- the window is empty
 abbrev pub noTrades : Figures → Bool
 noTrades f = eqb (f .count) 0
 
+-- the mean of its prices, by "Band arithmetic"
 abbrev pub meanIn : Figures → ℕ
 meanIn f = meanOf (f .sum) (f .count)
 

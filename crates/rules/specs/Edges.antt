@@ -1,0 +1,246 @@
+-- Records and calls at the edges of what the rules allow (document 01, "Units and ranges", "Moments", "Numbers given back"), and what they
+-- are answered.
+-- Assumes nothing.
+use Prim.Native.Nat.{ℕ}
+use mathlib.Core.Bool.{Bool, not}
+use mathlib.Core.List.{List, [], _∷_}
+use lib.Dec.{eqb}
+use lib.ListN.{length, set, replicate}
+use Rattle.forms.specs.Checks.{first}
+use Rattle.band.specs.Examples
+use Rattle.rules.specs.Stock.{Waiting, Paused, Late, stateOf, Trade, Whole, Trading}
+use Rattle.rules.specs.States.{noQuotes}
+use Rattle.rules.specs.Moments.{mark-z, mark-p, mark-c, mark-h}
+use Rattle.rules.specs.Messages.{taken}
+use Rattle.rules.specs.Numbers.{rubbish, tells, settles, fresh, callChecks, setsUp, answer, setupAnswer, afterTelling, afterSettling, tellAnswer, settleAnswer}
+use Rattle.rules.specs.Book.{bookTells, bookSettles}
+use Rattle.rules.specs.Days.{line, noticed, sameNumbers, listed}
+use Rattle.rules.specs.declared.Setup.{Setup}
+use Rattle.rules.specs.declared.Reference.{Reference}
+use Rattle.rules.specs.declared.Quotes.{Quotes}
+use Rattle.rules.specs.declared.Message.{Message}
+use Rattle.rules.specs.declared.Message.the-variants.{Trade as T, Quote as Q, Opening as O, Pause as P, Reopening as R, Closing as X}
+
+-- a stock of a session that ends at 3,600,000
+abbrev sound : ℕ → ℕ → ℕ → ℕ → ℕ → Reference → Quotes → List Trade → Whole
+sound state clock early entry pause reference quotes w = record {
+  stock = record {
+    setup = listed 2;
+    end = 3_600_000;
+    course = record { state = state; clock = clock; early = early; entry = entry; pause = pause };
+    reference = reference;
+    quotes = quotes;
+  };
+  window = w;
+}
+
+abbrev referring : ℕ → ℕ → ℕ → Reference
+referring price start hold = record { price = price; start = start; hold = hold }
+
+abbrev trade : ℕ → ℕ → Trade
+trade at price = record { at = at; price = price }
+
+-- Trading at 1,000,000, with a window and a reference that started at 990,000
+abbrev trading-with : Reference → List Trade → Whole
+trading-with r w = sound 1 1_000_000 0 0 0 r noQuotes w
+
+abbrev set-up-as : ℕ → Setup → Whole
+set-up-as end u = record { stock = record { setup = u; end = end; course = fresh end u .stock .course; reference = referring 0 0 0; quotes = noQuotes }; window = [] }
+
+-- state, clock, early, entry, pause, the reference's price, start and hold, and how many bids, offers and trades there are
+abbrev numbersOf : Whole → List ℕ
+numbersOf h =
+    let c = h .stock .course in
+    let r = h .stock .reference in
+    let q = h .stock .quotes in
+    c .state ∷ c .clock ∷ c .early ∷ c .entry ∷ c .pause ∷ r .price ∷ r .start ∷ r .hold ∷ length (q .bids) ∷ length (q .offers) ∷ length (h .window) ∷ []
+
+pub data Edge : Type 0 where
+  -- a record that is rubbish, and one that is not
+  bad good : Whole → Edge
+  -- a message to a record, and settling it to a time, with the number given
+  told : Whole → Message → ℕ → Edge
+  settled : Whole → ℕ → ℕ → Edge
+  -- a call that names a stock of a book of so many stocks, times and prices
+  names : (stocks times prices at : ℕ) → ℕ → Edge
+  -- a setup of so many stocks, times and prices, to an end
+  starts : (stocks times prices end : ℕ) → List Setup → ℕ → Edge
+  -- numbers of a record, or an answer as a line with a time and a mark
+  shown : List ℕ → List ℕ → Edge
+
+unfoldable pub asAnswered : Edge → Bool
+asAnswered (bad h) = rubbish h
+asAnswered (good h) = not (rubbish h)
+asAnswered (told h m number) = eqb (tells m h) number
+asAnswered (settled h time number) = eqb (settles time h) number
+asAnswered (names stocks times prices at number) = eqb (first (callChecks stocks times prices at)) number
+asAnswered (starts stocks times prices end us number) = eqb (setsUp stocks times prices end us) number
+asAnswered (shown is should) = sameNumbers is should
+
+unfoldable pub edges : List Edge
+edges =
+    -- the state, and the kept times
+    good (trading-with (referring 100_000 990_000 1) (trade 990_000 100_000 ∷ [])) ∷
+    good (sound 5 3_900_000 0 3_900_000 3_900_000 (referring 0 3_900_000 0) noQuotes []) ∷
+    bad (sound 6 3_900_000 0 0 0 (referring 0 0 0) noQuotes []) ∷
+    bad (sound 5 3_900_001 0 0 0 (referring 0 0 0) noQuotes []) ∷
+    bad (sound 5 3_900_000 0 3_900_001 0 (referring 0 0 0) noQuotes []) ∷
+    bad (sound 5 3_900_000 0 0 3_900_001 (referring 0 0 0) noQuotes []) ∷
+    bad (sound 5 3_900_000 0 0 0 (referring 0 3_900_001 0) noQuotes []) ∷
+    -- a reference, over the range and missing
+    good (trading-with (referring 999_999_999 990_000 1) []) ∷
+    bad (trading-with (referring 1_000_000_000 990_000 1) []) ∷
+    bad (trading-with (referring 0 990_000 1) []) ∷
+    bad (sound 2 1_000_000 0 990_000 0 (referring 0 990_000 1) noQuotes []) ∷
+    bad (sound 3 1_000_000 0 0 990_000 (referring 0 990_000 1) noQuotes []) ∷
+    bad (sound 4 3_000_000 0 0 3_000_000 (referring 0 0 0) noQuotes []) ∷
+    -- a pause that began too late to be one
+    good (sound 3 3_000_000 0 0 2_999_999 (referring 1 0 0) noQuotes []) ∷
+    bad (sound 3 3_000_000 0 0 3_000_000 (referring 1 0 0) noQuotes []) ∷
+    good (sound 4 3_000_000 0 0 3_000_000 (referring 1 0 0) noQuotes []) ∷
+    -- quotes
+    good (sound 0 0 1 0 0 (referring 0 0 0) (record { bids = set (noQuotes .bids) 15 999_999_999; offers = noQuotes .offers }) []) ∷
+    bad (sound 0 0 1 0 0 (referring 0 0 0) (record { bids = set (noQuotes .bids) 15 1_000_000_000; offers = noQuotes .offers }) []) ∷
+    bad (sound 0 0 1 0 0 (referring 0 0 0) (record { bids = noQuotes .bids; offers = set (noQuotes .offers) 0 1_000_000_000 }) []) ∷
+    -- held trades: how many, their prices, their order
+    good (trading-with (referring 1 990_000 1) (replicate 512 (trade 990_000 1))) ∷
+    bad (trading-with (referring 1 990_000 1) (replicate 513 (trade 990_000 1))) ∷
+    bad (trading-with (referring 1 990_000 1) (trade 990_000 0 ∷ [])) ∷
+    good (trading-with (referring 1 990_000 1) (trade 990_000 999_999_999 ∷ trade 1_000_000 1 ∷ [])) ∷
+    bad (trading-with (referring 1 990_000 1) (trade 990_000 1_000_000_000 ∷ [])) ∷
+    bad (trading-with (referring 1 990_000 1) (trade 1_000_001 1 ∷ [])) ∷
+    bad (trading-with (referring 1 990_000 1) (trade 990_000 1 ∷ trade 989_999 1 ∷ [])) ∷
+    -- a moment still to come and past: h, f, x, p, v, z; and one dated at the clock
+    good (trading-with (referring 1 970_000 1) []) ∷
+    bad (trading-with (referring 1 969_999 1) []) ∷
+    good (trading-with (referring 1 969_999 0) []) ∷
+    good (sound 0 300_000 1 0 0 (referring 0 0 0) noQuotes []) ∷
+    bad (sound 0 300_001 1 0 0 (referring 0 0 0) noQuotes []) ∷
+    good (sound 2 1_000_000 0 985_000 0 (referring 1 0 0) noQuotes []) ∷
+    bad (sound 2 1_000_000 0 984_999 0 (referring 1 0 0) noQuotes []) ∷
+    bad (sound 3 1_000_000 0 0 399_999 (referring 1 0 0) noQuotes []) ∷
+    good (trading-with (referring 1 0 0) (trade 700_000 1 ∷ [])) ∷
+    bad (trading-with (referring 1 0 0) (trade 699_999 1 ∷ [])) ∷
+    bad (sound 1 3_600_001 0 0 0 (referring 1 0 0) noQuotes []) ∷
+    -- what is not rubbish: a reference in Waiting, trades and quotes in Closed, a Late pause with an early start
+    good (sound 0 300_000 0 0 0 (referring 100_000 0 1) noQuotes []) ∷
+    good (sound 5 3_600_000 0 0 0 (referring 1 0 1) (record { bids = replicate 16 1; offers = replicate 16 1 }) (trade 0 1 ∷ [])) ∷
+    good (sound 4 1_000_000 0 0 0 (referring 1 0 0) noQuotes []) ∷
+    -- setups
+    good (set-up-as 23_400_000 (record { tier = 2; leverage = 3; primary = 15; close = 999_999_999 })) ∷
+    bad (set-up-as 23_400_001 (listed 2)) ∷
+    bad (set-up-as 3_599_999 (listed 2)) ∷
+    bad (set-up-as 3_600_000 (record { tier = 0; leverage = 1; primary = 0; close = 1 })) ∷
+    bad (set-up-as 3_600_000 (record { tier = 3; leverage = 1; primary = 0; close = 1 })) ∷
+    bad (set-up-as 3_600_000 (record { tier = 2; leverage = 0; primary = 0; close = 1 })) ∷
+    bad (set-up-as 3_600_000 (record { tier = 2; leverage = 4; primary = 0; close = 1 })) ∷
+    bad (set-up-as 3_600_000 (record { tier = 1; leverage = 2; primary = 0; close = 1 })) ∷
+    bad (set-up-as 3_600_000 (record { tier = 1; leverage = 1; primary = 16; close = 1 })) ∷
+    bad (set-up-as 3_600_000 (record { tier = 1; leverage = 1; primary = 0; close = 0 })) ∷
+    bad (set-up-as 3_600_000 (record { tier = 1; leverage = 1; primary = 0; close = 1_000_000_000 })) ∷
+    -- one check before a later one: 1 and 4, 4 and 5, 5 and 8, 6 and 8, 8 and 9, 11 and 13, 12 and 13
+    told (trading-with (referring 0 990_000 1) []) (T 1_000_000 0) 1 ∷
+    told (trading-with (referring 100_000 990_000 1) []) (T 999_999 0) 4 ∷
+    told (trading-with (referring 100_000 990_000 1) []) (R 999_999 3 100_000) 5 ∷
+    told (trading-with (referring 100_000 970_000 1) []) (R 1_000_000 3 100_000) 6 ∷
+    told (trading-with (referring 100_000 990_000 1) []) (R 1_000_000 3 100_000) 8 ∷
+    told (trading-with (referring 100_000 990_000 1) []) (R 1_000_000 2 100_000) 9 ∷
+    told (sound 3 1_000_000 0 0 990_000 (referring 1 0 0) noQuotes (replicate 512 (trade 990_000 1))) (T 1_000_000 1) 11 ∷
+    told (trading-with (referring 100_000 990_000 1) (replicate 512 (trade 990_000 100_000))) (T 1_000_000 89_999) 12 ∷
+    told (trading-with (referring 100_000 990_000 1) (replicate 512 (trade 990_000 100_000))) (T 1_000_000 90_000) 13 ∷
+    told (trading-with (referring 100_000 990_000 1) (replicate 511 (trade 990_000 100_000))) (T 1_000_000 110_000) 0 ∷
+    told (trading-with (referring 100_000 990_000 1) []) (T 1_000_000 110_001) 12 ∷
+    -- ranges of a message
+    told (trading-with (referring 100_000 990_000 1) []) (Q 1_000_000 15 999_999_999 0) 0 ∷
+    told (trading-with (referring 100_000 990_000 1) []) (Q 1_000_000 16 0 0) 4 ∷
+    told (trading-with (referring 100_000 990_000 1) []) (Q 1_000_000 15 0 1_000_000_000) 4 ∷
+    told (trading-with (referring 100_000 990_000 1) []) (Q 1_000_000 15 1_000_000_000 0) 4 ∷
+    told (trading-with (referring 100_000 990_000 1) []) (Q 3_900_001 15 0 0) 4 ∷
+    told (trading-with (referring 100_000 990_000 1) []) (T 1_000_000 1_000_000_000) 4 ∷
+    told (trading-with (referring 100_000 990_000 1) []) (T 3_900_001 100_000) 4 ∷
+    told (trading-with (referring 100_000 990_000 1) []) (P 1_000_000 16) 4 ∷
+    told (trading-with (referring 100_000 990_000 1) []) (P 3_900_001 2) 4 ∷
+    told (fresh 3_600_000 (listed 2)) (O 0 16 1) 4 ∷
+    told (fresh 3_600_000 (listed 2)) (O 0 2 0) 4 ∷
+    told (fresh 3_600_000 (listed 2)) (O 0 2 1_000_000_000) 4 ∷
+    told (fresh 3_600_000 (listed 2)) (O 3_900_001 2 1) 4 ∷
+    told (fresh 3_600_000 (listed 2)) (R 0 16 1) 4 ∷
+    told (fresh 3_600_000 (listed 2)) (R 0 2 0) 4 ∷
+    told (fresh 3_600_000 (listed 2)) (R 0 2 1_000_000_000) 4 ∷
+    told (fresh 3_600_000 (listed 2)) (R 3_900_001 2 1) 4 ∷
+    told (sound 4 3_600_000 0 0 3_000_000 (referring 1 0 0) noQuotes []) (X 3_600_000 16 1) 4 ∷
+    told (sound 4 3_600_000 0 0 3_000_000 (referring 1 0 0) noQuotes []) (X 3_600_000 2 1_000_000_000) 4 ∷
+    told (sound 4 3_600_000 0 0 3_000_000 (referring 1 0 0) noQuotes []) (X 3_600_000 2 0) 4 ∷
+    told (sound 4 3_600_000 0 0 3_000_000 (referring 1 0 0) noQuotes []) (X 3_900_001 2 1) 4 ∷
+    told (sound 4 3_600_000 0 0 3_000_000 (referring 1 0 0) noQuotes []) (X 3_600_000 2 1) 0 ∷
+    -- not the primary: O, P and X, and R above
+    told (fresh 3_600_000 (listed 2)) (O 0 3 1) 8 ∷
+    told (fresh 3_600_000 (listed 2)) (O 0 2 1) 0 ∷
+    told (trading-with (referring 100_000 990_000 1) []) (P 1_000_000 3) 8 ∷
+    told (sound 4 3_600_000 0 0 3_000_000 (referring 1 0 0) noQuotes []) (X 3_600_000 3 1) 8 ∷
+    -- settling: 1, 4, 14; a time before the clock is 14
+    settled (trading-with (referring 0 990_000 1) []) 3_900_001 1 ∷
+    settled (trading-with (referring 100_000 990_000 1) []) 3_900_001 4 ∷
+    settled (sound 5 3_600_000 0 0 0 (referring 1 0 0) noQuotes []) 3_900_001 4 ∷
+    settled (sound 5 3_600_000 0 0 0 (referring 1 0 0) noQuotes []) 3_900_000 14 ∷
+    settled (trading-with (referring 100_000 990_000 1) []) 0 14 ∷
+    settled (trading-with (referring 100_000 970_000 1) []) 1_000_000 0 ∷
+    -- w until the clock is there, also in a Late pause; v and h in one too; nothing in Closed
+    settled (sound 1 899_999 0 0 0 (referring 1 890_000 1) noQuotes []) 900_000 0 ∷
+    settled (sound 1 900_000 0 0 0 (referring 1 890_000 1) noQuotes []) 900_000 14 ∷
+    settled (sound 4 2_099_999 0 0 0 (referring 1 0 0) noQuotes []) 2_100_000 0 ∷
+    settled (sound 4 2_100_000 0 0 0 (referring 1 0 0) noQuotes []) 2_100_000 14 ∷
+    settled (sound 4 899_999 0 0 0 (referring 1 0 0) noQuotes []) 900_000 0 ∷
+    settled (sound 4 1_000_000 0 0 0 (referring 1 0 0) noQuotes (trade 700_000 1 ∷ [])) 1_000_000 0 ∷
+    settled (sound 4 1_000_000 0 0 0 (referring 1 970_000 1) noQuotes []) 1_000_000 0 ∷
+    settled (sound 5 0 1 0 0 (referring 1 0 1) noQuotes (trade 0 1 ∷ [])) 3_900_000 14 ∷
+    -- in one millisecond z before h; and, though no story brings them together, p before h, c before v
+    shown (settleAnswer 3_600_000 (sound 1 3_590_000 0 0 0 (referring 1 3_570_000 1) noQuotes []) .moment .mark ∷ []) (mark-z ∷ []) ∷
+    shown (settleAnswer 1_000_000 (sound 3 990_000 0 0 400_000 (referring 1 970_000 1) noQuotes []) .moment .mark ∷ []) (mark-p ∷ []) ∷
+    shown (settleAnswer 3_900_000 (sound 4 3_700_000 0 0 0 (referring 1 0 0) noQuotes (trade 3_600_000 1 ∷ [])) .moment .mark ∷ []) (mark-c ∷ []) ∷
+    -- a pause begun at E - 600,000 is a Late pause, one begun a millisecond before is not; closing empties the window
+    shown (stateOf (afterSettling 3_000_000 (sound 2 2_985_000 0 2_985_000 0 (referring 1 0 0) noQuotes []) .stock) ∷ []) (Late ∷ []) ∷
+    shown (stateOf (afterSettling 2_999_999 (sound 2 2_984_999 0 2_984_999 0 (referring 1 0 0) noQuotes []) .stock) ∷ []) (Paused ∷ []) ∷
+    shown (length (afterSettling 3_600_000 (sound 1 3_500_000 0 0 0 (referring 1 0 0) noQuotes (trade 3_400_000 1 ∷ [])) .window) ∷ []) (0 ∷ []) ∷
+    shown (length (afterSettling 3_900_000 (sound 4 3_600_000 0 0 0 (referring 1 0 0) noQuotes (trade 3_600_000 1 ∷ [])) .window) ∷ []) (0 ∷ []) ∷
+    shown (length (afterTelling (X 3_600_000 2 1) (sound 4 3_600_000 0 0 0 (referring 1 0 0) noQuotes (trade 3_600_000 1 ∷ [])) .window) ∷ []) (0 ∷ []) ∷
+    -- the shape of a book before the stock number
+    names 1 512 512 0 0 ∷
+    names 1 512 512 1 3 ∷
+    names 1 512 511 1 1 ∷
+    names 0 0 0 0 1 ∷
+    names 64 32_768 32_768 63 0 ∷
+    names 65 33_280 33_280 0 1 ∷
+    -- setup: 1 and 2
+    starts 0 0 0 3_600_000 [] 1 ∷
+    starts 65 33_280 33_280 3_600_000 (replicate 65 (listed 1)) 1 ∷
+    starts 64 32_768 32_768 3_600_000 (replicate 64 (listed 1)) 0 ∷
+    starts 1 511 512 0 (listed 1 ∷ []) 1 ∷
+    starts 1 512 513 0 (listed 1 ∷ []) 1 ∷
+    starts 1 512 512 0 [] 1 ∷
+    starts 1 512 512 0 (listed 1 ∷ []) 2 ∷
+    starts 2 1_024 1_024 3_600_000 (listed 1 ∷ listed 3 ∷ []) 2 ∷
+    -- the first five minutes: no reference before 300,000, an opening until then; one trade is enough for f
+    shown (stateOf (afterSettling 300_000 (sound 0 100_000 1 0 0 (referring 0 0 0) noQuotes (trade 100_000 1 ∷ [])) .stock) ∷ []) (Trading ∷ []) ∷
+    shown (stateOf (afterTelling (T 299_999 1) (fresh 3_600_000 (listed 2)) .stock) ∷ []) (Waiting ∷ []) ∷
+    told (fresh 3_600_000 (listed 2)) (O 299_999 2 1) 0 ∷
+    -- there is no state over 5
+    shown (taken 0 6 ∷ []) (7 ∷ []) ∷
+    -- a stock as setup starts it
+    shown (numbersOf (fresh 3_600_000 (listed 2))) (0 ∷ 0 ∷ 1 ∷ 0 ∷ 0 ∷ 0 ∷ 0 ∷ 0 ∷ 16 ∷ 16 ∷ 0 ∷ []) ∷
+    -- zeros after 1, 2 and 3, and beside a setup that is done; no mark and no time where settling did nothing
+    shown (line 0 0 (tellAnswer (T 1_000_000 1) (trading-with (referring 0 990_000 1) []))) (0 ∷ 0 ∷ 1 ∷ 0 ∷ 0 ∷ 0 ∷ 0 ∷ 0 ∷ 0 ∷ 0 ∷ 0 ∷ []) ∷
+    shown (line 0 0 (answer 2 (trading-with (referring 1 990_000 1) [] .stock))) (0 ∷ 0 ∷ 2 ∷ 0 ∷ 0 ∷ 0 ∷ 0 ∷ 0 ∷ 0 ∷ 0 ∷ 0 ∷ []) ∷
+    shown (line 0 0 (answer 3 (trading-with (referring 1 990_000 1) [] .stock))) (0 ∷ 0 ∷ 3 ∷ 0 ∷ 0 ∷ 0 ∷ 0 ∷ 0 ∷ 0 ∷ 0 ∷ 0 ∷ []) ∷
+    shown (line 0 0 (setupAnswer 1 512 512 0 (listed 1 ∷ []))) (0 ∷ 0 ∷ 2 ∷ 0 ∷ 0 ∷ 0 ∷ 0 ∷ 0 ∷ 0 ∷ 0 ∷ 0 ∷ []) ∷
+    shown (line 0 0 (setupAnswer 1 512 512 3_600_000 (listed 1 ∷ []))) (0 ∷ 0 ∷ 0 ∷ 0 ∷ 0 ∷ 0 ∷ 0 ∷ 0 ∷ 0 ∷ 0 ∷ 0 ∷ []) ∷
+    shown (line 0 0 (bookTells 3_600_000 (fresh 3_600_000 (listed 2) ∷ []) 512 512 1 (T 0 1))) (0 ∷ 0 ∷ 3 ∷ 0 ∷ 0 ∷ 0 ∷ 0 ∷ 0 ∷ 0 ∷ 0 ∷ 0 ∷ []) ∷
+    -- 1 for the shape before 3, and 3 before what the stock would answer
+    shown (line 0 0 (bookTells 3_600_000 (fresh 3_600_000 (listed 2) ∷ []) 511 512 1 (T 0 1))) (0 ∷ 0 ∷ 1 ∷ 0 ∷ 0 ∷ 0 ∷ 0 ∷ 0 ∷ 0 ∷ 0 ∷ 0 ∷ []) ∷
+    shown (line 0 0 (bookTells 3_600_000 (trading-with (referring 0 0 0) [] ∷ []) 512 512 1 (T 0 1))) (0 ∷ 0 ∷ 3 ∷ 0 ∷ 0 ∷ 0 ∷ 0 ∷ 0 ∷ 0 ∷ 0 ∷ 0 ∷ []) ∷
+    shown (noticed (bookSettles 3_600_000 (fresh 3_600_000 (listed 2) ∷ []) 512 512 1 0)) (0 ∷ 0 ∷ 3 ∷ 0 ∷ 0 ∷ 0 ∷ 0 ∷ 0 ∷ 0 ∷ 0 ∷ 0 ∷ []) ∷
+    shown (noticed (settleAnswer 1_000_000 (trading-with (referring 100_000 990_000 1) [])))
+    (0 ∷ 0 ∷ 14 ∷ 1 ∷ 100_000 ∷ 90_000 ∷ 110_000 ∷ 0 ∷ 0 ∷ 0 ∷ 0 ∷ []) ∷
+    shown (noticed (settleAnswer 1_000_000 (trading-with (referring 100_000 970_000 1) [])))
+    (1_000_000 ∷ mark-h ∷ 0 ∷ 1 ∷ 100_000 ∷ 90_000 ∷ 110_000 ∷ 0 ∷ 0 ∷ 0 ∷ 0 ∷ []) ∷
+    []
