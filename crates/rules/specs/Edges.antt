@@ -40,10 +40,15 @@ referring price start hold = record { price = price; start = start; hold = hold 
 abbrev trade : ℕ → ℕ → Trade
 trade at price = record { at = at; price = price }
 
--- Trading at 1,000,000, with a window and a reference that started at 990,000
+-- Trading at 1,000,000, with a reference and a window
 abbrev trading-with : Reference → List Trade → Whole
 trading-with r w = sound 1 1_000_000 0 0 0 r noQuotes w
 
+-- Trading at a time, with a best bid below the lower band
+abbrev straddled : ℕ → Whole
+straddled time = sound 1 time 0 0 0 (referring 100_000 0 0) (record { bids = set (noQuotes .bids) 5 1; offers = noQuotes .offers }) []
+
+-- a stock of a setup and a session's end
 abbrev set-up-as : ℕ → Setup → Whole
 set-up-as end u = record { stock = record { setup = u; end = end; course = fresh end u .stock .course; reference = referring 0 0 0; quotes = noQuotes }; window = [] }
 
@@ -106,6 +111,7 @@ edges =
     good (trading-with (referring 1 990_000 1) (replicate 512 (trade 990_000 1))) ∷
     bad (trading-with (referring 1 990_000 1) (replicate 513 (trade 990_000 1))) ∷
     bad (trading-with (referring 1 990_000 1) (trade 990_000 0 ∷ [])) ∷
+    bad (trading-with (referring 1 990_000 1) (trade 990_000 0 ∷ trade 990_000 1 ∷ [])) ∷
     good (trading-with (referring 1 990_000 1) (trade 990_000 999_999_999 ∷ trade 1_000_000 1 ∷ [])) ∷
     bad (trading-with (referring 1 990_000 1) (trade 990_000 1_000_000_000 ∷ [])) ∷
     bad (trading-with (referring 1 990_000 1) (trade 1_000_001 1 ∷ [])) ∷
@@ -178,6 +184,22 @@ edges =
     told (fresh 3_600_000 (listed 2)) (O 0 2 1) 0 ∷
     told (trading-with (referring 100_000 990_000 1) []) (P 1_000_000 3) 8 ∷
     told (sound 4 3_600_000 0 0 3_000_000 (referring 1 0 0) noQuotes []) (X 3_600_000 3 1) 8 ∷
+    told (fresh 3_600_000 (listed 2)) (O 0 1 1) 8 ∷
+    told (trading-with (referring 100_000 990_000 1) []) (P 1_000_000 1) 8 ∷
+    told (trading-with (referring 100_000 990_000 1) []) (R 1_000_000 1 100_000) 8 ∷
+    told (sound 4 3_600_000 0 0 3_000_000 (referring 1 0 0) noQuotes []) (X 3_600_000 1 1) 8 ∷
+    -- the message's time decides, and not the clock: X at E, O at 300,000, a late T in Waiting, which no band stops
+    told (sound 4 3_005_000 0 0 3_005_000 (referring 1 0 0) noQuotes []) (X 3_600_000 2 1) 0 ∷
+    told (sound 4 3_005_000 0 0 3_005_000 (referring 1 0 0) noQuotes []) (X 3_599_999 2 1) 10 ∷
+    told (sound 0 0 0 0 0 (referring 0 0 0) noQuotes []) (O 300_000 2 1) 9 ∷
+    told (sound 0 400_000 0 0 0 (referring 0 0 0) noQuotes []) (T 400_000 1) 0 ∷
+    told (sound 0 400_000 0 0 0 (referring 100_000 0 0) noQuotes []) (T 400_000 1) 0 ∷
+    -- a straddle makes a pause until E - 600,000 and then a Late pause; without one there is none
+    shown (tells (P 2_999_999 2) (straddled 2_990_000) ∷ stateOf (afterTelling (P 2_999_999 2) (straddled 2_990_000) .stock) ∷ []) (0 ∷ Paused ∷ []) ∷
+    shown (tells (P 3_000_000 2) (straddled 2_990_000) ∷ stateOf (afterTelling (P 3_000_000 2) (straddled 2_990_000) .stock) ∷ []) (0 ∷ Late ∷ []) ∷
+    -- a quote is taken in each state but Closed
+    told (sound 3 1_000_000 0 0 990_000 (referring 1 0 0) noQuotes []) (Q 1_000_000 0 1 1) 0 ∷
+    told (sound 4 3_000_000 0 0 3_000_000 (referring 1 0 0) noQuotes []) (Q 3_000_000 0 1 1) 0 ∷
     -- settling: 1, 4, 14; a time before the clock is 14
     settled (trading-with (referring 0 990_000 1) []) 3_900_001 1 ∷
     settled (trading-with (referring 100_000 990_000 1) []) 3_900_001 4 ∷
@@ -191,12 +213,15 @@ edges =
     settled (sound 4 2_099_999 0 0 0 (referring 1 0 0) noQuotes []) 2_100_000 0 ∷
     settled (sound 4 2_100_000 0 0 0 (referring 1 0 0) noQuotes []) 2_100_000 14 ∷
     settled (sound 4 899_999 0 0 0 (referring 1 0 0) noQuotes []) 900_000 0 ∷
+    settled (sound 0 899_999 0 0 0 (referring 0 0 0) noQuotes []) 900_000 0 ∷
+    settled (sound 0 2_099_999 0 0 0 (referring 0 0 0) noQuotes []) 2_100_000 0 ∷
     settled (sound 4 1_000_000 0 0 0 (referring 1 0 0) noQuotes (trade 700_000 1 ∷ [])) 1_000_000 0 ∷
     settled (sound 4 1_000_000 0 0 0 (referring 1 970_000 1) noQuotes []) 1_000_000 0 ∷
     settled (sound 5 0 1 0 0 (referring 1 0 1) noQuotes (trade 0 1 ∷ [])) 3_900_000 14 ∷
-    -- in one millisecond z before h; and, though no story brings them together, p before h, c before v
+    -- in one millisecond z before h; and, though no story brings them together, p before h and v, c before v
     shown (settleAnswer 3_600_000 (sound 1 3_590_000 0 0 0 (referring 1 3_570_000 1) noQuotes []) .moment .mark ∷ []) (mark-z ∷ []) ∷
     shown (settleAnswer 1_000_000 (sound 3 990_000 0 0 400_000 (referring 1 970_000 1) noQuotes []) .moment .mark ∷ []) (mark-p ∷ []) ∷
+    shown (settleAnswer 1_000_000 (sound 3 990_000 0 0 400_000 (referring 1 0 0) noQuotes (trade 700_000 1 ∷ [])) .moment .mark ∷ []) (mark-p ∷ []) ∷
     shown (settleAnswer 3_900_000 (sound 4 3_700_000 0 0 0 (referring 1 0 0) noQuotes (trade 3_600_000 1 ∷ [])) .moment .mark ∷ []) (mark-c ∷ []) ∷
     -- a pause begun at E - 600,000 is a Late pause, one begun a millisecond before is not; closing empties the window
     shown (stateOf (afterSettling 3_000_000 (sound 2 2_985_000 0 2_985_000 0 (referring 1 0 0) noQuotes []) .stock) ∷ []) (Late ∷ []) ∷
@@ -208,6 +233,7 @@ edges =
     names 1 512 512 0 0 ∷
     names 1 512 512 1 3 ∷
     names 1 512 511 1 1 ∷
+    names 1 513 512 0 1 ∷
     names 0 0 0 0 1 ∷
     names 64 32_768 32_768 63 0 ∷
     names 65 33_280 33_280 0 1 ∷
@@ -218,6 +244,8 @@ edges =
     starts 1 511 512 0 (listed 1 ∷ []) 1 ∷
     starts 1 512 513 0 (listed 1 ∷ []) 1 ∷
     starts 1 512 512 0 [] 1 ∷
+    starts 1 512 512 3_600_000 (listed 1 ∷ listed 1 ∷ []) 1 ∷
+    starts 1 513 512 3_600_000 (listed 1 ∷ []) 1 ∷
     starts 1 512 512 0 (listed 1 ∷ []) 2 ∷
     starts 2 1_024 1_024 3_600_000 (listed 1 ∷ listed 3 ∷ []) 2 ∷
     -- the first five minutes: no reference before 300,000, an opening until then; one trade is enough for f
@@ -238,7 +266,14 @@ edges =
     -- 1 for the shape before 3, and 3 before what the stock would answer
     shown (line 0 0 (bookTells 3_600_000 (fresh 3_600_000 (listed 2) ∷ []) 511 512 1 (T 0 1))) (0 ∷ 0 ∷ 1 ∷ 0 ∷ 0 ∷ 0 ∷ 0 ∷ 0 ∷ 0 ∷ 0 ∷ 0 ∷ []) ∷
     shown (line 0 0 (bookTells 3_600_000 (trading-with (referring 0 0 0) [] ∷ []) 512 512 1 (T 0 1))) (0 ∷ 0 ∷ 3 ∷ 0 ∷ 0 ∷ 0 ∷ 0 ∷ 0 ∷ 0 ∷ 0 ∷ 0 ∷ []) ∷
-    shown (noticed (bookSettles 3_600_000 (fresh 3_600_000 (listed 2) ∷ []) 512 512 1 0)) (0 ∷ 0 ∷ 3 ∷ 0 ∷ 0 ∷ 0 ∷ 0 ∷ 0 ∷ 0 ∷ 0 ∷ 0 ∷ []) ∷
+    shown (noticed (bookSettles 3_600_000 (fresh 3_600_000 (listed 2) ∷ []) 512 512 1 7)) (0 ∷ 0 ∷ 3 ∷ 0 ∷ 0 ∷ 0 ∷ 0 ∷ 0 ∷ 0 ∷ 0 ∷ 0 ∷ []) ∷
+    shown (noticed (settleAnswer 3_900_001 (trading-with (referring 100_000 970_000 1) [])))
+    (0 ∷ 0 ∷ 4 ∷ 1 ∷ 100_000 ∷ 90_000 ∷ 110_000 ∷ 0 ∷ 0 ∷ 0 ∷ 0 ∷ []) ∷
+    -- every other number with what the stock shows: 13, and 4 in Waiting with a reference
+    shown (line 0 0 (tellAnswer (T 1_000_000 90_000) (trading-with (referring 100_000 990_000 1) (replicate 512 (trade 990_000 100_000)))))
+    (0 ∷ 0 ∷ 13 ∷ 1 ∷ 100_000 ∷ 90_000 ∷ 110_000 ∷ 0 ∷ 0 ∷ 0 ∷ 0 ∷ []) ∷
+    shown (line 0 0 (tellAnswer (T 400_000 0) (sound 0 400_000 0 0 0 (referring 100_000 0 0) noQuotes [])))
+    (0 ∷ 0 ∷ 4 ∷ 0 ∷ 100_000 ∷ 0 ∷ 0 ∷ 0 ∷ 0 ∷ 0 ∷ 0 ∷ []) ∷
     shown (noticed (settleAnswer 1_000_000 (trading-with (referring 100_000 990_000 1) [])))
     (0 ∷ 0 ∷ 14 ∷ 1 ∷ 100_000 ∷ 90_000 ∷ 110_000 ∷ 0 ∷ 0 ∷ 0 ∷ 0 ∷ []) ∷
     shown (noticed (settleAnswer 1_000_000 (trading-with (referring 100_000 970_000 1) [])))
