@@ -1,6 +1,7 @@
 -- Every demand on the rules, proved.
 -- Assumes nothing.
 use Rattle.rules.specs.Demands.{Demands}
+use Rattle.rules.proofs.Accepted.{accepted-where}
 use Rattle.rules.proofs.Alike.{alike}
 use Rattle.rules.proofs.BestQuotes.{best-quotes}
 use Rattle.rules.proofs.Books.{by-story, refused, others, answers, settled-alike, same-notice}
@@ -11,7 +12,6 @@ use Rattle.rules.proofs.Held.{held-trades}
 use Rattle.rules.proofs.Last.{clock, last-quotes}
 use Rattle.rules.proofs.Lawful.{machineLaws}
 use Rattle.rules.proofs.Looks.{looked-at, limit-entered}
-use Rattle.rules.proofs.Passed.{accepted-where}
 use Rattle.rules.proofs.Pauses.{bands, pauses, limit-holds}
 use Rattle.rules.proofs.References.{reference, dates}
 use Rattle.rules.proofs.Resumes.{resumes, never-again}

@@ -24,3 +24,4 @@ pub mod Held
 pub mod BestQuotes
 pub mod Looks
 pub mod Since
+pub mod Accepted

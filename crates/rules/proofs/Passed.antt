@@ -3,18 +3,14 @@
 use Prim.Native.Nat.{ℕ, _+_, _≤_}
 use mathlib.Core.Bool.{true, false}
 use mathlib.Core.Path.{_≡_}
-use borrow.Author.Tests.{ltb-false, le-ltb, not-true, not-false}
-use Rattle.forms.specs.Checks.{first, Passed}
-use Rattle.forms.proofs.Checks.{beyond, own-passed, applied, passed, all-passed}
-use Rattle.forms.proofs.Choice.{eq-not}
-use Rattle.forms.proofs.Tables.{_│_}
+use borrow.Author.Tests.{ltb-false, not-true, not-false}
+use Rattle.forms.specs.Checks.{first}
+use Rattle.forms.proofs.Checks.{beyond, own-passed, applied, passed}
 use Rattle.rules.specs.Stock.{Whole, stateOf, clockOf}
 use Rattle.rules.specs.Moments.{dueBy, nextOf}
 use Rattle.rules.specs.Messages.{kind, timeOf, taken}
 use Rattle.rules.specs.Numbers.{rubbish, outOfRange, notPrimary, ownChecks, checks, tells, settleChecks, settles}
-use Rattle.rules.specs.Demands.{AcceptedWhere}
 use Rattle.rules.specs.declared.Message.{Message}
-use Rattle.rules.specs.declared.Message.the-variants.{Trade as T, Quote as Q, Opening as O, Pause as P, Reopening as R, Closing as X}
 
 -- a message that is accepted
 pub record Told (m : Message) (h : Whole) : Type 0 where
@@ -71,31 +67,3 @@ idle t h e =
     let a = beyond 14 _ 1 _ tt e in
     let b = beyond 14 _ 4 _ tt (a .1) in
     record { sound = a .0; in-range = ltb-false _ _ (b .0); none-due = not-true _ (applied _ 14 tt (b .1)) }
-
--- ------------------------------------------------------------------ a call is accepted exactly where none of its checks applies
-
-own-checks : (m : Message) (h : Whole) → first (ownChecks m h) ≡ 0 → Passed (ownChecks m h)
-unfolding ownChecks
-own-checks (T t a) h e = passed (ownChecks (T t a) h) tt e
-own-checks (Q t i b o) h e = tt
-own-checks (O t i a) h e = passed (ownChecks (O t i a) h) tt e
-own-checks (P t i) h e = passed (ownChecks (P t i) h) tt e
-own-checks (R t i a) h e = passed (ownChecks (R t i a) h) tt e
-own-checks (X t i a) h e = passed (ownChecks (X t i a) h) tt e
-
-pub accepted-where : AcceptedWhere
-unfolding checks tells settleChecks settles
-accepted-where h = (
-  (λ m. ((λ e. none m (told m h e)), all-passed (checks m h))),
-  (λ time. (passed (settleChecks time h) tt, all-passed (settleChecks time h))),
-)
-  where
-    none : (m : Message) → Told m h → Passed (checks m h)
-    none m t =
-        t .sound
-        │ t .in-range
-        │ le-ltb _ _ (t .not-back)
-        │ t .none-due
-        │ t .from-primary
-        │ eq-not _ _ (t .state-takes)
-        │ own-checks m h (t .own-passes)

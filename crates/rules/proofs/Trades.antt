@@ -23,7 +23,7 @@ use Rattle.rules.proofs.Timely.{takes}
 
 -- ------------------------------------------------------------------ trades
 
-not-outside : (s : Stock) (price : ℕ) → outside s price ≡ false → inForce s ≡ true → (bandsIn s .lower ≤ price) × (price ≤ bandsIn s .upper)
+pub not-outside : (s : Stock) (price : ℕ) → outside s price ≡ false → inForce s ≡ true → (bandsIn s .lower ≤ price) × (price ≤ bandsIn s .upper)
 unfolding outside
 not-outside s price e on =
     let none = inside _ refl in

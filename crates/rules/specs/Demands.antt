@@ -9,18 +9,17 @@ use mathlib.Core.List.{List, [], _∷_, _++_}
 use mathlib.Core.Logic.{_↔_, _⊎_}
 use mathlib.Core.Path.{_≡_}
 use lib.ListN.{length, getD}
-use Rattle.forms.specs.Checks.{Passed}
 use Rattle.forms.specs.Tables.{every}
 use Rattle.band.specs.Band.{percentOf, factorOf, bandsOf}
 use Rattle.band.specs.declared.Limits.{Limits}
 use Rattle.rules.specs.Stock.{Whole, Trading, Limit, Paused, Late, Closed, stateOf, clockOf, at-time}
 use Rattle.rules.specs.Quotes.{inForce, bandsIn, bestOf, atLimit, crossed}
-use Rattle.rules.specs.Moments.{mark-p, mark-f, fire}
+use Rattle.rules.specs.Moments.{mark-p, mark-f, dueBy, nextOf, fire}
 use Rattle.rules.specs.Messages.{taken, with-quote}
-use Rattle.rules.specs.Numbers.{badEnd, badSetup, badShape, rubbish, checks, tells, settleChecks, settles, answer, afterSettling, notice, settleAnswer, fresh}
+use Rattle.rules.specs.Numbers.{badEnd, badSetup, badShape, rubbish, tells, settles, answer, afterSettling, notice, settleAnswer, fresh}
 use Rattle.rules.specs.Machine.{Machine, MachineLaws, Alike, Call, tell, settle, On, Event, message, moment, messages, notices, dated, Lawful, becomes, left, Calls, stock, numberIn, stepIn}
 use Rattle.rules.specs.Book.{machine, Story, Accepted, noSetup, blank, now, story, Settled, bookTells, bookSettles}
-use Rattle.rules.specs.Readings.{joined, recent, lastQuote, IsOneOf, IsBest, Starts, Refers, Referred, StartedBy, inWords, letterOf, leadsTo, markOf, IsDated, lastDate, EndsLimit, countOf, MomentsOnly}
+use Rattle.rules.specs.Readings.{joined, recent, lastQuote, IsOneOf, IsBest, Starts, Refers, Referred, StartedBy, inWords, Taken, letterOf, leadsTo, markOf, IsDated, lastDate, EndsLimit, countOf, MomentsOnly}
 use Rattle.rules.specs.Pauses.{before, PauseAt, LimitSince, PausedSince}
 use Rattle.rules.specs.Examples.{right, byHand}
 use Rattle.rules.specs.Days.{asPrinted, days}
@@ -157,9 +156,11 @@ SameNotice = (h : Whole) (time : ℕ) → settles time h ≡ 0 → (settleAnswer
 
 -- ---------------------------------------------------------------- messages, trades and pauses
 
--- A message is accepted exactly where none of its checks applies, and settling does a moment exactly where none of its own does.
+-- A message is accepted exactly where it has all that it needs; settling does a moment exactly where one is due, at a time in range.
 abbrev pub AcceptedWhere : Type 0
-AcceptedWhere = (h : Whole) → ((m : Message) → (tells m h ≡ 0) ↔ Passed (checks m h)) × ((time : ℕ) → (settles time h ≡ 0) ↔ Passed (settleChecks time h))
+AcceptedWhere = (h : Whole)
+    → ((m : Message) → (tells m h ≡ 0) ↔ Taken m h)
+    × ((time : ℕ) → (settles time h ≡ 0) ↔ ((rubbish h ≡ false) × (time ≤ h .stock .end + 300_000) × (dueBy time (nextOf h) ≡ true)))
 
 -- The table of message by state, in words.
 abbrev pub TableInWords : Type 0

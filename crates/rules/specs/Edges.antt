@@ -48,6 +48,10 @@ trading-with r w = sound 1 1_000_000 0 0 0 r noQuotes w
 abbrev straddled : ℕ → Whole
 straddled time = sound 1 time 0 0 0 (referring 100_000 0 0) (record { bids = set (noQuotes .bids) 5 1; offers = noQuotes .offers }) []
 
+-- Trading with a best offer at the lower band
+abbrev at-band : Reference → Whole
+at-band r = sound 1 1_000_000 0 0 0 r (record { bids = noQuotes .bids; offers = set (noQuotes .offers) 5 90_000 }) []
+
 -- a stock of a setup and a session's end
 abbrev set-up-as : ℕ → Setup → Whole
 set-up-as end u = record { stock = record { setup = u; end = end; course = fresh end u .stock .course; reference = referring 0 0 0; quotes = noQuotes }; window = [] }
@@ -229,6 +233,9 @@ edges =
     shown (length (afterSettling 3_600_000 (sound 1 3_500_000 0 0 0 (referring 1 0 0) noQuotes (trade 3_400_000 1 ∷ [])) .window) ∷ []) (0 ∷ []) ∷
     shown (length (afterSettling 3_900_000 (sound 4 3_600_000 0 0 0 (referring 1 0 0) noQuotes (trade 3_600_000 1 ∷ [])) .window) ∷ []) (0 ∷ []) ∷
     shown (length (afterTelling (X 3_600_000 2 1) (sound 4 3_600_000 0 0 0 (referring 1 0 0) noQuotes (trade 3_600_000 1 ∷ [])) .window) ∷ []) (0 ∷ []) ∷
+    -- a trade and h that do not move the reference do not look at the quotes
+    shown (stateOf (afterTelling (T 1_000_000 100_000) (at-band (referring 100_000 0 0)) .stock) ∷ []) (Trading ∷ []) ∷
+    shown (stateOf (afterSettling 1_000_000 (at-band (referring 100_000 970_000 1)) .stock) ∷ []) (Trading ∷ []) ∷
     -- the shape of a book before the stock number
     names 1 512 512 0 0 ∷
     names 1 512 512 1 3 ∷

@@ -11,9 +11,10 @@ use lib.ListN.{getD, length}
 use Rattle.forms.specs.Choice.{if_then_else_, allOf, anyOf}
 use Rattle.band.specs.Band.{movesOf}
 use Rattle.rules.specs.Stock.{Trade, Whole, Waiting, Trading, Limit, is, stateOf, clockOf, at-time, figuresOf, meanIn}
-use Rattle.rules.specs.Quotes.{inForce, bandsIn, bestOf, atLimit}
-use Rattle.rules.specs.Moments.{mark-z, mark-w, mark-x, mark-p, mark-c, mark-v, mark-f, mark-h}
-use Rattle.rules.specs.Messages.{letter-T, letter-Q, letter-O, letter-P, letter-R, letter-X, letter, with-quote}
+use Rattle.rules.specs.Quotes.{inForce, bandsIn, bestOf, atLimit, straddle}
+use Rattle.rules.specs.Moments.{mark-z, mark-w, mark-x, mark-p, mark-c, mark-v, mark-f, mark-h, dueBy, nextOf}
+use Rattle.rules.specs.Messages.{letter-T, letter-Q, letter-O, letter-P, letter-R, letter-X, letter, timeOf, kind, with-quote}
+use Rattle.rules.specs.Numbers.{rubbish, outOfRange}
 use Rattle.rules.specs.Machine.{Event, message, moment, dated, becomes}
 use Rattle.rules.specs.Book.{machine, Story}
 use Rattle.rules.specs.declared.Stock.{Stock}
@@ -231,6 +232,37 @@ inWords kind state =
     if isTaken kind state then 0 else
     if eqb kind 0 then 11 else
     9
+
+-- ------------------------------------------------------------------ what is taken, in words ("Numbers given back")
+
+-- O, P, R and X come from the primary
+abbrev pub FromPrimary : ℕ → Message → Type 0
+FromPrimary primary (T time price) = Unit {0}
+FromPrimary primary (Q time participant bid offer) = Unit {0}
+FromPrimary primary (O time participant price) = participant ≡ primary
+FromPrimary primary (P time participant) = participant ≡ primary
+FromPrimary primary (R time participant price) = participant ≡ primary
+FromPrimary primary (X time participant price) = participant ≡ primary
+
+-- T within bands in force, and fewer than 512 held; O before 300,000; P with flag 2 on a side; R 300,000 after the pause began; X from E on
+abbrev pub InTime : Message → Whole → Type 0
+InTime (T time price) h =
+    (inForce (h .stock) ≡ true → (bandsIn (h .stock) .lower ≤ price) × (price ≤ bandsIn (h .stock) .upper)) × (length (h .window) < 512)
+InTime (Q time participant bid offer) h = Unit {0}
+InTime (O time participant price) h = time < 300_000
+InTime (P time participant) h = straddle (h .stock) ≡ true
+InTime (R time participant price) h = h .stock .course .pause + 300_000 ≤ time
+InTime (X time participant price) h = h .stock .end ≤ time
+
+-- all that a message needs
+pub record Taken (m : Message) (h : Whole) : Type 0 where
+  pub sound : rubbish h ≡ false
+  pub in-range : outOfRange (h .stock .end) m ≡ false
+  pub not-back : clockOf (h .stock) ≤ timeOf m
+  pub none-due : dueBy (timeOf m) (nextOf h) ≡ false
+  pub from-primary : FromPrimary (h .stock .setup .primary) m
+  pub by-state : inWords (kind m) (stateOf (h .stock)) ≡ 0
+  pub in-time : InTime m h
 
 -- ------------------------------------------------------------------ the state ("States", "Moments", "Messages")
 
