@@ -3,7 +3,7 @@
 use Prim.Native.Nat.{ℕ, _<_}
 use mathlib.Core.Bool.{Bool, true, false}
 use mathlib.Core.List.{List, [], _∷_, foldl}
-use mathlib.Core.Path.{_≡_, refl, subst, sym}
+use mathlib.Core.Path.{_≡_, refl, subst, sym, ap}
 use borrow.Author.Tests.{ne-eqb, eqb-true, ltb-true, ltb-false, lt-leb, le-leb, lt-ltb}
 use native.Mathlib.Nat.{le-of-suc-le-suc, not-suc-le-zero}
 use Prim.Native.Nat.{zero, suc}
@@ -16,15 +16,15 @@ use Rattle.rules.specs.Stock.{Whole}
 use Rattle.rules.specs.Numbers.{badEnd, badSetup, orBadSetup, setupChecks, setsUp, settleAnswer, afterSettling, fresh, callChecks, settles, answer, notice, tellAnswer, afterTelling, zeros}
 use Rattle.rules.specs.Machine.{Lawful, left, numberIn, stepIn, tell, settle, Call, On, number, done, stock}
 use Rattle.rules.specs.Book.{machine, Accepted, noSetup, blank, book, now, story, bookTells, bookSettles}
-use Rattle.rules.specs.Demands.{ByStory, Refused, OthersStay, SettledAlike, SameNotice, BookAnswers}
+use Rattle.rules.specs.Demands.{ByStory, Refused, OthersStay, SettledAlike, SameNotice, BookAnswers, shown}
 use Rattle.rules.specs.declared.Setup.{Setup}
 use Rattle.rules.proofs.Lawful.{rules-by-history, rules-settled-alike}
 use lib.Dec.{ltb, eqb}
 use Rattle.forms.specs.Checks.{first}
 use Rattle.rules.specs.declared.Stock.{Stock}
-use Rattle.rules.specs.declared.Answer.{Answer}
 use Rattle.rules.specs.declared.Message.{Message}
-use Rattle.rules.specs.Moments.{fire}
+use Rattle.rules.specs.Moments.{fire, no-moment, nextOf}
+use Rattle.rules.specs.declared.Notice.{Notice}
 
 -- ------------------------------------------------------------------ one call
 
@@ -59,11 +59,17 @@ module _ (end : ℕ) (b : List Whole) (i : ℕ) where
       go true = getD-set-same b i (done machine c here) (blank end) l
       go false = refl
 
-settle-shows : (time : ℕ) (h : Whole) → settleAnswer time h .answer ≡ answer (settles time h) ((if eqb (settles time h) 0 then fire h else h) .stock)
+settle-shows : (time : ℕ) (h : Whole)
+    → settleAnswer time h
+    ≡ record {
+      answer = answer (settles time h) ((if eqb (settles time h) 0 then fire h else h) .stock);
+      moment = if eqb (settles time h) 0 then nextOf h else no-moment;
+    }
 unfolding settleAnswer notice if_then_else_
 settle-shows time h = go (eqb (settles time h) 0) refl
   where
-    go : (ok : Bool) → eqb (settles time h) 0 ≡ ok → settleAnswer time h .answer ≡ answer (settles time h) ((if ok then fire h else h) .stock)
+    go : (ok : Bool) → eqb (settles time h) 0 ≡ ok
+        → settleAnswer time h ≡ record { answer = answer (settles time h) ((if ok then fire h else h) .stock); moment = if ok then nextOf h else no-moment }
     go true e = rw (eqb-true (settles time h) 0 e)
     go false e = rw e
 
@@ -75,18 +81,22 @@ pub answers : BookAnswers
 unfolding bookTells bookSettles numberIn tellAnswer afterTelling callChecks first if_then_else_
 answers end b times prices i shape = go (ltb i (length b)) refl
   where
-    shows : Call Message → Answer
-    shows c = answer (numberIn machine (blank end) b (on-i end b i c)) (stock machine (blank end) (stepIn machine (blank end) b (on-i end b i c)) i .stock)
+    noticed : Call Message → Notice
+    noticed c = record {
+      answer = shown end b (on-i end b i c);
+      moment = if eqb (numberIn machine (blank end) b (on-i end b i c)) 0 then nextOf (here end b i) else no-moment;
+    }
 
     go : (there : Bool) → ltb i (length b) ≡ there
-        → ((m : Message) → bookTells end b times prices i m ≡ shows (tell m)) × ((time : ℕ) → bookSettles end b times prices i time .answer ≡ shows (settle time))
+        → ((m : Message) → bookTells end b times prices i m ≡ shown end b (on-i end b i (tell m)))
+        × ((time : ℕ) → bookSettles end b times prices i time ≡ noticed (settle time))
     go true e =
         let l = ltb-true i (length b) e in
         let n = lt-leb (length b) i l in
         ((λ m. rw (after-call end b i (tell m) l, shape, n, e)), (λ time. rw (after-call end b i (settle time) l, shape, n, e) (settle-shows time (here end b i))))
     go false e =
         let n = le-leb (length b) i (ltb-false i (length b) e) in
-        ((λ m. rw (shape, n, e) (sym (answer-3 _))), (λ time. rw (shape, n, e) (sym (answer-3 _))))
+        ((λ m. rw (shape, n, e) (sym (answer-3 _))), (λ time. rw (shape, n, e) (ap (λ a. record { answer = a; moment = no-moment }) (sym (answer-3 _)))))
 
 -- ------------------------------------------------------------------ a setup that is accepted
 

@@ -13,7 +13,7 @@ use Rattle.rules.proofs.Last.{clock, last-quotes}
 use Rattle.rules.proofs.Lawful.{machineLaws}
 use Rattle.rules.proofs.Looks.{looked-at, limit-entered}
 use Rattle.rules.proofs.Pauses.{bands, pauses, limit-holds}
-use Rattle.rules.proofs.References.{reference, dates}
+use Rattle.rules.proofs.References.{reference, dates, earliest-first}
 use Rattle.rules.proofs.Resumes.{resumes, never-again}
 use Rattle.rules.proofs.Since.{reference-since}
 use Rattle.rules.proofs.Sound.{never-rubbish, settling}
@@ -40,6 +40,7 @@ demands = record {
   bands = bands;
   best-quotes = best-quotes;
   states = states;
+  earliest-first = earliest-first;
   dates = dates;
   same-notice = same-notice;
   accepted-where = accepted-where;

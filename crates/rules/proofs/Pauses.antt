@@ -7,7 +7,7 @@ use mathlib.Core.Logic.{_↔_, _⊎_, inl, inr}
 use mathlib.Core.Path.{_≡_, refl, sym, ap, _∙_, subst}
 use native.Mathlib.Decide.{ℕ-discrete}
 use native.Mathlib.Omega.{arith}
-use borrow.Author.Tests.{eqb-true, eq-eqb, ltb-true, ltb-false, le-leb}
+use borrow.Author.Tests.{eqb-true, eq-eqb, ltb-true, ltb-false, le-leb, ne-eqb}
 use lib.Dec.{eqb, ltb, leb}
 use lib.ListN.{take, drop}
 use Rattle.forms.specs.Choice.{if_then_else_, anyOf}
@@ -276,17 +276,22 @@ limit-bands : (s : Stock) → stateOf s ≡ Limit → bandsIn s ≡ bandsAt s (s
 unfolding bandsIn inForce kTime anyOf if_then_else_
 limit-bands s e = rw e
 
+no-bands : (s : Stock) → (stateOf s ≡ Trading → ⊥) → (stateOf s ≡ Limit → ⊥) → bandsIn s ≡ record { lower = 0; upper = 0 }
+unfolding bandsIn inForce anyOf if_then_else_
+no-bands s t l = rw (ne-eqb (stateOf s) Trading t, ne-eqb (stateOf s) Limit l)
+
 pub bands : BandsAre
 unfolding fresh
 bands end u es a =
     let h = leaves end u es in
     let k = kept-left (fresh end u) es (a .lawful) in (
       (λ e. trading-bands (h .stock) e ∙ ap (λ k. bandsAt (h .stock) (k .0) k) k),
-      λ e. (
+      (λ e. (
         h .stock .course .entry,
         limit-since (h .stock .course .entry) (fresh end u) es (fresh-out end u) (a .lawful) .0 (e, refl),
         limit-bands (h .stock) e ∙ ap (bandsAt (h .stock) (h .stock .course .entry)) k,
-      ),
+      )),
+      no-bands (h .stock),
     )
 
 -- ------------------------------------------------------------------ within a stay

@@ -14,18 +14,20 @@ use Rattle.forms.proofs.Choice.{if-true, if-false, if-arms, ne-not, all-head, a
 use Rattle.rules.specs.Stock.{Trade, Whole, Waiting, Limit, stateOf, clockOf, is, at-time, hold-ended, figuresOf, noTrades, meanIn}
 use Rattle.rules.specs.Quotes.{atLimit}
 use Rattle.rules.specs.States.{look, begin-trading, leave, test, begin-pause, shut}
-use Rattle.rules.specs.Moments.{mark-z, mark-w, mark-x, mark-c, first-five, effect, come, nextOf, fire}
+use Rattle.rules.specs.Moments.{mark-z, mark-w, mark-x, mark-c, first-five, effect, come, nextOf, fire, momentTable, next}
 use Rattle.rules.specs.Numbers.{notice}
 use Rattle.rules.specs.Messages.{tradeRules, quoteRules, with-quote, does, after}
 use Rattle.rules.specs.Machine.{message, moment, becomes}
 use Rattle.rules.specs.Book.{machine}
 use Rattle.rules.specs.Readings.{EndsLimit, Starts, StartsMean, AsBefore, testMoves, Tested, RefersAt, IsDated}
-use Rattle.rules.specs.Demands.{ReferenceIs, DatesAre}
+use Rattle.rules.specs.Demands.{ReferenceIs, DatesAre, EarliestFirst}
 use Rattle.rules.specs.declared.Stock.{Stock}
 use Rattle.rules.specs.declared.Moment.{Moment}
 use Rattle.rules.specs.declared.Notice.{Notice}
 use Rattle.rules.specs.declared.Message.the-variants.{Trade as T, Quote as Q, Opening as O, Pause as P, Reopening as R, Closing as X}
 use Rattle.rules.proofs.MomentRows.{IsRow, row-z, row-w-early, row-w-late, row-x, row-p, row-c, row-v, row-f, row-h, notice-row}
+use Rattle.rules.proofs.Earliest.{none-before}
+use Rattle.rules.proofs.Timely.{mark-rows}
 
 -- ------------------------------------------------------------------ what the state rules do to the reference
 
@@ -161,3 +163,7 @@ row-dated h n (row-h k t a b c) = with-second (λ e. absurd (omega arith)) (omeg
 
 pub dates : DatesAre
 dates h n v = row-dated h n (notice-row h n v)
+
+pub earliest-first : EarliestFirst
+unfolding momentTable next
+earliest-first h = none-before (momentTable (figuresOf (h .window)) (h .stock)) (mark-rows (figuresOf (h .window)) (h .stock))

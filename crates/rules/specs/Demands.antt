@@ -8,18 +8,20 @@ use mathlib.Core.Bool.{true, false}
 use mathlib.Core.List.{List, [], _∷_, _++_}
 use mathlib.Core.Logic.{_↔_, _⊎_}
 use mathlib.Core.Path.{_≡_}
+use lib.Dec.{eqb}
 use lib.ListN.{length, getD}
+use Rattle.forms.specs.Choice.{if_then_else_}
 use Rattle.forms.specs.Tables.{every}
 use Rattle.band.specs.Band.{percentOf, factorOf, bandsOf}
 use Rattle.band.specs.declared.Limits.{Limits}
-use Rattle.rules.specs.Stock.{Whole, Trading, Limit, Paused, Late, Closed, stateOf, clockOf, at-time}
+use Rattle.rules.specs.Stock.{Whole, Trading, Limit, Paused, Late, Closed, stateOf, clockOf, at-time, figuresOf}
 use Rattle.rules.specs.Quotes.{inForce, bandsIn, bestOf, atLimit, crossed}
-use Rattle.rules.specs.Moments.{mark-p, mark-f, dueBy, nextOf, fire}
+use Rattle.rules.specs.Moments.{mark-p, mark-f, no-moment, momentTable, dueBy, nextOf, fire}
 use Rattle.rules.specs.Messages.{taken, with-quote}
 use Rattle.rules.specs.Numbers.{badEnd, badSetup, badShape, rubbish, tells, settles, answer, afterSettling, notice, settleAnswer, fresh}
 use Rattle.rules.specs.Machine.{Machine, MachineLaws, Alike, Call, tell, settle, On, Event, message, moment, messages, notices, dated, Lawful, becomes, left, Calls, stock, numberIn, stepIn}
 use Rattle.rules.specs.Book.{machine, Story, Accepted, noSetup, blank, now, story, Settled, bookTells, bookSettles}
-use Rattle.rules.specs.Readings.{joined, recent, lastQuote, IsOneOf, IsBest, Starts, Refers, Referred, StartedBy, inWords, Taken, letterOf, leadsTo, markOf, IsDated, lastDate, EndsLimit, countOf, MomentsOnly}
+use Rattle.rules.specs.Readings.{joined, recent, lastQuote, IsOneOf, IsBest, Starts, Refers, Referred, StartedBy, inWords, Taken, letterOf, leadsTo, markOf, ComesFirst, IsDated, lastDate, EndsLimit, countOf, MomentsOnly}
 use Rattle.rules.specs.Pauses.{before, PauseAt, LimitSince, PausedSince}
 use Rattle.rules.specs.Examples.{right, byHand}
 use Rattle.rules.specs.Days.{asPrinted, days}
@@ -67,11 +69,15 @@ OthersStay = (end : ℕ) (b : List Whole) (c : On (Call Message)) (i : ℕ) → 
 abbrev pub shown : ℕ → List Whole → On (Call Message) → Answer
 shown end b c = answer (numberIn machine (blank end) b c) (stock machine (blank end) (stepIn machine (blank end) b c) (c .at) .stock)
 
--- A book of the right shape answers with these: 3 for a stock that there is not.
+-- A book of the right shape answers with these, 3 for a stock that there is not, and settling with the moment that it did, if any.
 abbrev pub BookAnswers : Type 0
 BookAnswers = (end : ℕ) (b : List Whole) (times prices i : ℕ) → badShape (length b) times prices ≡ false
     → ((m : Message) → bookTells end b times prices i m ≡ shown end b (record { at = i; it = tell m }))
-    × ((time : ℕ) → bookSettles end b times prices i time .answer ≡ shown end b (record { at = i; it = settle time }))
+    × ((time : ℕ) → let c : On (Call Message) = record { at = i; it = settle time } in
+    bookSettles end b times prices i time ≡ record {
+      answer = shown end b c;
+      moment = if eqb (numberIn machine (blank end) b c) 0 then nextOf (stock machine (blank end) b i) else no-moment;
+    })
 
 -- No call ever makes rubbish.
 abbrev pub NeverRubbish : Type 0
@@ -129,13 +135,14 @@ ReferenceSince = (end : ℕ) (u : Setup) (es : Story) → Allowed end u es
     → let r = leaves end u es .stock .reference in
     ((r ≡ record { price = 0; start = 0; hold = 0 }) × Referred 0 0 (fresh end u) es) ⊎ StartedBy (r .price) (r .start) (fresh end u) es
 
--- The bands are those of the reference, the close and the k of now; in Limit, of the k of its entry.
+-- The bands are those of the reference, the close and the k of now; in Limit, of the k of its entry; in the other states they are 0.
 abbrev pub BandsAre : Type 0
 BandsAre = (end : ℕ) (u : Setup) (es : Story) → Allowed end u es
     → let s = leaves end u es .stock in
     let at : ℕ → Limits = λ time. bandsOf (s .reference .price) 1 (percentOf (u .tier) (u .close)) (factorOf (u .leverage) time end) in
     (stateOf s ≡ Trading → bandsIn s ≡ at (lastDate 0 es))
     × (stateOf s ≡ Limit → (entered : ℕ) × LimitSince entered (fresh end u) es × (bandsIn s ≡ at entered))
+    × ((stateOf s ≡ Trading → ⊥) → (stateOf s ≡ Limit → ⊥) → bandsIn s ≡ record { lower = 0; upper = 0 })
 
 -- The best bid is the highest bid that counts, the best offer the lowest offer that counts, and their flags say where they stand.
 abbrev pub BestQuotes : Type 0
@@ -145,6 +152,10 @@ BestQuotes = (s : Stock) → IsBest s
 abbrev pub StatesFollow : Type 0
 StatesFollow = (h : Whole) (e : Event Message Notice) → CanHappen h e
     → IsOneOf (stateOf (becomes machine h e .stock)) (leadsTo (letterOf e) (stateOf (h .stock)))
+
+-- The earliest moment is not after any that is still to come.
+abbrev pub EarliestFirst : Type 0
+EarliestFirst = (h : Whole) → ComesFirst (nextOf h) (momentTable (figuresOf (h .window)) (h .stock))
 
 -- A moment is dated by the rules.
 abbrev pub DatesAre : Type 0
@@ -263,6 +274,7 @@ pub record Demands : Type 1 where
   pub bands : BandsAre
   pub best-quotes : BestQuotes
   pub states : StatesFollow
+  pub earliest-first : EarliestFirst
   pub dates : DatesAre
   pub same-notice : SameNotice
   pub accepted-where : AcceptedWhere

@@ -1,5 +1,6 @@
--- A stock read off its accepted history, without going through the steps (demand 2): what document 01 says in "States", "Quotes and
--- flags", "Moments" and "Messages", said once more in another way.
+-- A stock read off its accepted history (demand 2): what document 01 says in "States", "Quotes and flags", "Moments", "Messages" and
+-- "Numbers given back", said once more in another way. Trades, quotes and dates are read without the steps; what a reference or a stay
+-- in Limit depends on, the window and the state at an event, is that of the stock at that event.
 -- Assumes nothing.
 use Prim.Native.Nat.{ℕ, _+_, _≤_, _<_}
 use mathlib.Core.Bool.{Bool, true, false}
@@ -12,7 +13,7 @@ use Rattle.forms.specs.Choice.{if_then_else_, allOf, anyOf}
 use Rattle.band.specs.Band.{movesOf}
 use Rattle.rules.specs.Stock.{Trade, Whole, Waiting, Trading, Limit, is, stateOf, clockOf, at-time, figuresOf, meanIn}
 use Rattle.rules.specs.Quotes.{inForce, bandsIn, bestOf, atLimit, straddle}
-use Rattle.rules.specs.Moments.{mark-z, mark-w, mark-x, mark-p, mark-c, mark-v, mark-f, mark-h, dueBy, nextOf}
+use Rattle.rules.specs.Moments.{mark-z, mark-w, mark-x, mark-p, mark-c, mark-v, mark-f, mark-h, Row, dueBy, nextOf}
 use Rattle.rules.specs.Messages.{letter-T, letter-Q, letter-O, letter-P, letter-R, letter-X, letter, timeOf, kind, with-quote}
 use Rattle.rules.specs.Numbers.{rubbish, outOfRange}
 use Rattle.rules.specs.Machine.{Event, message, moment, dated, becomes}
@@ -317,6 +318,11 @@ abbrev pub leadsTo : ℕ → ℕ → List ℕ
 leadsTo letter state = getD (rowOf letter stateTable) state []
 
 -- ------------------------------------------------------------------ dates ("Moments")
+
+-- a moment that is not after any of the rows still to come; there is one where a row is still to come
+abbrev pub ComesFirst : Moment → List Row → Type 0
+ComesFirst m [] = Unit {0}
+ComesFirst m (r ∷ rs) = (r .comes ≡ true → (m .mark ≡ 0 → ⊥) × (m .time ≤ r .time)) × ComesFirst m rs
 
 -- the date of each moment, by its mark, from the stock that it happens to
 abbrev pub IsDated : Notice → Whole → Type 0
