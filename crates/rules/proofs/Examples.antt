@@ -1,4 +1,4 @@
--- The table of examples and the days, by computation.
+-- The table of examples, the days and the edges, by computation.
 -- Assumes nothing.
 use mathlib.Core.Path.{refl}
 use Rattle.forms.specs.Choice.{if_then_else_, allOf, anyOf}

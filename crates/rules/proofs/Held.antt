@@ -1,6 +1,6 @@
 -- The held trades are those of the last 300,000 since the last opening.
 -- Assumes nothing.
-use Prim.Native.Nat.{ℕ, _+_, _≤_, _<_}
+use Prim.Native.Nat.{ℕ, _+_, _≤_, _<_, _-_}
 use mathlib.Core.Bool.{Bool, true, false, true≢false}
 use mathlib.Core.List.{List, [], _∷_, _++_, foldl}
 use mathlib.Core.Logic.{_⊎_, inl, inr}
@@ -13,7 +13,7 @@ use Rattle.forms.specs.Choice.{if_then_else_, allOf, anyOf}
 use Rattle.forms.proofs.Choice.{if-true, if-false, if-arms, all-tail, all-yes, all-empty, any-head, any-tail, ne-not, if-no, all-leb, all-eqb}
 use Rattle.rules.specs.Stock.{hold-ended, Trade, Whole, stateOf, clockOf, oldest, figuresOf, staying}
 use Rattle.rules.specs.States.{begin-pause}
-use Rattle.rules.specs.Moments.{mark-v, momentTable, next, dueBy, effect, windowAfter, come, nextOf, fire}
+use Rattle.rules.specs.Moments.{mark-v, momentTable, next, effect, windowAfter, come, nextOf, fire}
 use Rattle.rules.specs.Messages.{kind, timeOf, taken, does, after}
 use Rattle.rules.specs.Numbers.{Seen, badTrade, see, badTrades, rubbish, tells, settles, fresh, notice}
 use Rattle.rules.specs.Machine.{message, moment, Lawful, left}
@@ -27,11 +27,12 @@ use Rattle.rules.specs.declared.Message.{Message}
 use Rattle.rules.specs.declared.Message.the-variants.{Trade as T, Quote as Q, Opening as O, Pause as P, Reopening as R, Closing as X}
 use Rattle.rules.proofs.Earliest.{IsMoment, one-of, none-before}
 use Rattle.rules.proofs.Passed.{told, settled, idle}
-use Rattle.rules.proofs.Lawful.{when-due, when-not, machineLaws}
+use Rattle.rules.proofs.Lawful.{when-due, when-not, machineLaws, next-not-past}
 use Rattle.rules.proofs.Kept.{Stands, look-stands, trading-stands, test-stands, five-stands, trade-stands, quote-stands}
 use Rattle.rules.proofs.Last.{effect-open}
-use Rattle.rules.proofs.Sound.{IsPrice, InOrder, is-price}
+use Rattle.rules.proofs.Sound.{IsPrice, InOrder, is-price, never-rubbish}
 use Rattle.rules.proofs.Timely.{mark-rows}
+use native.Mathlib.Decide.{ℕ-discrete}
 
 -- ------------------------------------------------------------------ a window that check 1 lets pass
 
@@ -214,22 +215,29 @@ left-holds (moment n ∷ es) h l i v =
 
 -- ------------------------------------------------------------------ nothing due: no trade of the window has left
 
-oldest-stays : (time : ℕ) (s : Stock) (a : Trade) (w : List Trade) → Low s → dueBy time (next (figuresOf (a ∷ w)) s) ≡ false → time < a .at + 300_000
+-- the earliest moment, if there is one, is after the time
+abbrev Later : ℕ → Moment → Type 0
+Later time m = IsMoment m → time < m .time
+
+oldest-stays : (time : ℕ) (s : Stock) (a : Trade) (w : List Trade) → Low s → Later time (next (figuresOf (a ∷ w)) s) → time < a .at + 300_000
 unfolding next momentTable figuresOf oldest
 oldest-stays time s a w l e =
     let f : Figures = figuresOf (a ∷ w) in
     let k = none-before (momentTable f s) (mark-rows f s) .1 .1 .1 .1 .1 .1 .0
     (all-yes _ _ (le-leb (stateOf s) 4 l) (all-yes _ _ (ne-not (length (a ∷ w)) 0 (omega arith)) all-empty)) in
-    omega (arith, when-not time (next f s) e (k .0), k .1)
+    omega (arith, e (k .0), k .1)
 
-idle-stays : (time : ℕ) (s : Stock) (w : List Trade) → Low s → dueBy time (next (figuresOf w) s) ≡ false → staying time w ≡ w
+all-stay : (time : ℕ) (s : Stock) (w : List Trade) → Low s → Later time (next (figuresOf w) s) → staying time w ≡ w
 unfolding staying
-idle-stays time s [] l e = refl
-idle-stays time s (a ∷ w) l e = if-true _ _ _ (lt-ltb time (a .at + 300_000) (oldest-stays time s a w l e))
+all-stay time s [] l e = refl
+all-stay time s (a ∷ w) l e = if-true _ _ _ (lt-ltb time (a .at + 300_000) (oldest-stays time s a w l e))
 
 pub held-trades : HeldTrades
 unfolding fresh recent
-held-trades end u es a = ((i .cut, i .cut-by, i .held), nothing-due)
+held-trades end u es a = (
+  at-clock (ℕ-discrete (i .cut) (clockOf (h .stock))),
+  λ time e c. held-at time (λ is. when-not time (nextOf h) (idle time h e .none-due) is) (omega (arith, i .cut-by)),
+)
   where
     h : Whole
     h = leaves end u es
@@ -237,12 +245,20 @@ held-trades end u es a = ((i .cut, i .cut-by, i .held), nothing-due)
     i : Holds h (joined [] es)
     i = left-holds es (fresh end u) [] (record { cut = 0; cut-by = lit≤ tt; held = refl; live = inl (lit≤ tt) }) (a .lawful)
 
-    none-left : (time : ℕ) → settles time h ≡ 14 → Low (h .stock) ⊎ (h .window ≡ []) → recent time (h .window) ≡ h .window
-    none-left time e (inl l) =
-        sym (staying-recent time _ 0 (h .window) (window-in-order h (idle time h e .sound)))
-        ∙ idle-stays time (h .stock) (h .window) l (idle time h e .none-due)
+    sound : rubbish h ≡ false
+    sound = never-rubbish end u es a
+
+    none-left : (time : ℕ) → Later time (nextOf h) → Low (h .stock) ⊎ (h .window ≡ []) → recent time (h .window) ≡ h .window
+    none-left time e (inl l) = sym (staying-recent time _ 0 (h .window) (window-in-order h sound)) ∙ all-stay time (h .stock) (h .window) l e
     none-left time e (inr p) = rw p
 
-    nothing-due : (time : ℕ) → settles time h ≡ 14 → clockOf (h .stock) ≤ time → h .window ≡ recent time (joined [] es)
-    nothing-due time e c =
-        sym (none-left time e (i .live)) ∙ (ap (recent time) (i .held) ∙ recent-twice (i .cut) time (omega (arith, i .cut-by)) (joined [] es))
+    held-at : (time : ℕ) → Later time (nextOf h) → i .cut ≤ time → h .window ≡ recent time (joined [] es)
+    held-at time e c = sym (none-left time e (i .live)) ∙ (ap (recent time) (i .held) ∙ recent-twice (i .cut) time c (joined [] es))
+
+    at-clock : Dec (i .cut ≡ clockOf (h .stock))
+        → (cut : ℕ) × (cut ≤ clockOf (h .stock)) × (clockOf (h .stock) ≤ cut + 1) × (h .window ≡ recent cut (joined [] es))
+    at-clock (yes e) = (i .cut, i .cut-by, omega arith, i .held)
+    at-clock (no n) =
+        let c = clockOf (h .stock) - 1 in
+        let b = i .cut-by in
+        (c, omega arith, omega arith, held-at c (λ is. omega (arith, next-not-past h sound is)) (omega arith))

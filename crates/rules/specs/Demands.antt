@@ -110,11 +110,12 @@ abbrev pub ClockIs : Type 0
 ClockIs = (end : ℕ) (u : Setup) (es : Story) → Allowed end u es
     → (clockOf (leaves end u es .stock) ≡ lastDate 0 es) × (leaves end u es .stock .setup ≡ u) × (leaves end u es .stock .end ≡ end)
 
--- The held trades are those since the last opening, of the 300,000 before a time that is not after the clock; settled, of the last 300,000.
+-- The held trades are those since the last opening, of the last 300,000: at the clock, but for those that leave at its very millisecond and
+-- may be there still, and at each time to which the stock is settled.
 abbrev pub HeldTrades : Type 0
 HeldTrades = (end : ℕ) (u : Setup) (es : Story) → Allowed end u es
     → let h = leaves end u es in
-    ((cut : ℕ) × (cut ≤ clockOf (h .stock)) × (h .window ≡ recent cut (joined [] es)))
+    ((cut : ℕ) × (cut ≤ clockOf (h .stock)) × (clockOf (h .stock) ≤ cut + 1) × (h .window ≡ recent cut (joined [] es)))
     × ((time : ℕ) → settles time h ≡ 14 → clockOf (h .stock) ≤ time → h .window ≡ recent time (joined [] es))
 
 -- There are sixteen quotes, each the participant's last, and 0 before its first.
