@@ -14,7 +14,7 @@ use Rattle.rules.specs.Quotes.{inForce, bandsIn}
 use Rattle.rules.specs.Moments.{dueBy, nextOf}
 use Rattle.rules.specs.Messages.{kind, taken}
 use Rattle.rules.specs.Numbers.{rubbish, notPrimary, outside, ownChecks, checks, tells, settleChecks, settles}
-use Rattle.rules.specs.Readings.{inWords, FromPrimary, InTime, Taken}
+use Rattle.rules.specs.Readings.{inWords, FromPrimary, OwnNeeds, Acceptable}
 use Rattle.rules.specs.Demands.{AcceptedWhere}
 use Rattle.rules.specs.declared.Stock.{Stock}
 use Rattle.rules.specs.declared.Message.{Message}
@@ -70,18 +70,18 @@ is-inside s price k = go (inForce s) refl
         all-not-there _ _ (all-not-here _ _ (any-not _ _ (le-ltb _ _ (b .0)) (any-not _ _ (le-ltb _ _ (b .1)) any-empty)))
     go false e = all-not-here _ _ e
 
-in-time : (m : Message) (h : Whole) → first (ownChecks m h) ≡ 0 → InTime m h
+own-needs : (m : Message) (h : Whole) → first (ownChecks m h) ≡ 0 → OwnNeeds m h
 unfolding ownChecks
-in-time (T time price) h e =
+own-needs (T time price) h e =
     let a = beyond 0 _ 12 _ tt e in
     (not-outside _ _ (a .0), leb-false _ _ (beyond 0 _ 13 _ tt (a .1) .0))
-in-time (Q time participant bid offer) h e = tt
-in-time (O time participant price) h e = leb-false _ _ (beyond 0 _ 9 _ tt e .0)
-in-time (P time participant) h e = not-false _ (beyond 0 _ 9 _ tt e .0)
-in-time (R time participant price) h e = ltb-false _ _ (beyond 0 _ 10 _ tt e .0)
-in-time (X time participant price) h e = ltb-false _ _ (beyond 0 _ 10 _ tt e .0)
+own-needs (Q time participant bid offer) h e = tt
+own-needs (O time participant price) h e = leb-false _ _ (beyond 0 _ 9 _ tt e .0)
+own-needs (P time participant) h e = not-false _ (beyond 0 _ 9 _ tt e .0)
+own-needs (R time participant price) h e = ltb-false _ _ (beyond 0 _ 10 _ tt e .0)
+own-needs (X time participant price) h e = ltb-false _ _ (beyond 0 _ 10 _ tt e .0)
 
-own-pass : (m : Message) (h : Whole) → InTime m h → Passed (ownChecks m h)
+own-pass : (m : Message) (h : Whole) → OwnNeeds m h → Passed (ownChecks m h)
 unfolding ownChecks
 own-pass (T time price) h k = is-inside _ _ (k .0) │ lt-leb _ _ (k .1) │ tt
 own-pass (Q time participant bid offer) h k = tt
@@ -92,7 +92,7 @@ own-pass (X time participant price) h k = le-ltb _ _ k │ tt
 
 -- ------------------------------------------------------------------ both ways
 
-is-taken : (m : Message) (h : Whole) → tells m h ≡ 0 → Taken m h
+is-taken : (m : Message) (h : Whole) → tells m h ≡ 0 → Acceptable m h
 is-taken m h e =
     let t = told m h e in
     record {
@@ -102,10 +102,10 @@ is-taken m h e =
       none-due = t .none-due;
       from-primary = is-primary _ m (t .from-primary);
       by-state = sym (by-words m h (t .sound)) ∙ t .state-takes;
-      in-time = in-time m h (t .own-passes);
+      own-needs = own-needs m h (t .own-passes);
     }
 
-takes : (m : Message) (h : Whole) → Taken m h → tells m h ≡ 0
+takes : (m : Message) (h : Whole) → Acceptable m h → tells m h ≡ 0
 unfolding tells checks
 takes m h t = all-passed (checks m h) (
     t .sound
@@ -114,7 +114,7 @@ takes m h t = all-passed (checks m h) (
     │ t .none-due
     │ not-other _ m (t .from-primary)
     │ eq-not _ _ (by-words m h (t .sound) ∙ t .by-state)
-    │ own-pass m h (t .in-time))
+    │ own-pass m h (t .own-needs))
 
 settles-due : (time : ℕ) (h : Whole) → (rubbish h ≡ false) × (time ≤ h .stock .end + 300_000) × (dueBy time (nextOf h) ≡ true) → settles time h ≡ 0
 unfolding settles settleChecks

@@ -16,7 +16,7 @@ use Rattle.rules.specs.Stock.{Whole}
 use Rattle.rules.specs.Numbers.{badEnd, badSetup, orBadSetup, setupChecks, setsUp, settleAnswer, afterSettling, fresh, callChecks, settles, answer, notice, tellAnswer, afterTelling, zeros}
 use Rattle.rules.specs.Machine.{Lawful, left, numberIn, stepIn, tell, settle, Call, On, number, done, stock}
 use Rattle.rules.specs.Book.{machine, Accepted, noSetup, blank, book, now, story, bookTells, bookSettles}
-use Rattle.rules.specs.Demands.{ByStory, Refused, OthersStay, SettledAlike, SameNotice, BookAnswers, shown}
+use Rattle.rules.specs.Demands.{ByStory, Refused, OthersStay, SettledAlike, SameNotice, BookAnswers, answerTo}
 use Rattle.rules.specs.declared.Setup.{Setup}
 use Rattle.rules.proofs.Lawful.{rules-by-history, rules-settled-alike}
 use lib.Dec.{ltb, eqb}
@@ -83,12 +83,12 @@ answers end b times prices i shape = go (ltb i (length b)) refl
   where
     noticed : Call Message → Notice
     noticed c = record {
-      answer = shown end b (on-i end b i c);
+      answer = answerTo end b (on-i end b i c);
       moment = if eqb (numberIn machine (blank end) b (on-i end b i c)) 0 then nextOf (here end b i) else no-moment;
     }
 
     go : (there : Bool) → ltb i (length b) ≡ there
-        → ((m : Message) → bookTells end b times prices i m ≡ shown end b (on-i end b i (tell m)))
+        → ((m : Message) → bookTells end b times prices i m ≡ answerTo end b (on-i end b i (tell m)))
         × ((time : ℕ) → bookSettles end b times prices i time ≡ noticed (settle time))
     go true e =
         let l = ltb-true i (length b) e in

@@ -19,7 +19,7 @@ use Rattle.rules.specs.Numbers.{notice}
 use Rattle.rules.specs.Messages.{tradeRules, quoteRules, with-quote, does, after}
 use Rattle.rules.specs.Machine.{message, moment, becomes}
 use Rattle.rules.specs.Book.{machine}
-use Rattle.rules.specs.Readings.{EndsLimit, Starts, StartsMean, AsBefore, testMoves, Tested, RefersAt, IsDated}
+use Rattle.rules.specs.Readings.{EndsLimit, Starts, StartsMean, AsBefore, testMoves, TestMade, RefersAt, IsDated}
 use Rattle.rules.specs.Demands.{ReferenceIs, DatesAre, EarliestFirst}
 use Rattle.rules.specs.declared.Stock.{Stock}
 use Rattle.rules.specs.declared.Moment.{Moment}
@@ -70,7 +70,7 @@ unfolding figuresOf
 trade-asked [] = refl
 trade-asked (t ∷ ts) = le-leb 1 (length (t ∷ ts)) (omega arith) ∙ sym (ne-not (length (t ∷ ts)) 0 (λ e. omega arith))
 
-test-tested : (w : List Trade) (h : Whole) → Tested (h .stock .reference .hold) h (record { stock = test (figuresOf w) (h .stock); window = w })
+test-tested : (w : List Trade) (h : Whole) → TestMade (h .stock .reference .hold) h (record { stock = test (figuresOf w) (h .stock); window = w })
 unfolding test testMoves
 test-tested w h = (
   (λ t. (

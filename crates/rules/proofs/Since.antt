@@ -17,7 +17,7 @@ use Rattle.rules.specs.Messages.{with-quote, does, after}
 use Rattle.rules.specs.Numbers.{fresh}
 use Rattle.rules.specs.Machine.{Event, message, moment, Lawful, becomes, left}
 use Rattle.rules.specs.Book.{machine, Story}
-use Rattle.rules.specs.Readings.{markOf, IsOneOf, Starts, StartsMean, testMoves, Tested, RefersAt, MayStart, Referred, StartedBy}
+use Rattle.rules.specs.Readings.{markOf, IsOneOf, Starts, StartsMean, testMoves, TestMade, RefersAt, MayStart, Referred, StartedBy}
 use Rattle.rules.specs.Demands.{leaves, CanHappen, ReferenceSince}
 use Rattle.rules.specs.declared.Stock.{Stock}
 use Rattle.rules.specs.declared.Reference.{Reference}
@@ -59,7 +59,7 @@ mean-moment : (h : Whole) (n : Notice) → IsOneOf (markOf n) (mark-v ∷ mark-f
 mean-moment h n o m = let b = mean-begun (fire h) m in (inr (o, b .0), b .1)
 
 -- the Test keeps the reference, or starts a mean, of which A follows
-tested : {A : Type 0} (hold : ℕ) (h h′ : Whole) → (h .stock .reference .hold ≡ 0 → hold ≡ 0) → (StartsMean h′ → A) → Tested hold h h′
+tested : {A : Type 0} (hold : ℕ) (h h′ : Whole) → (h .stock .reference .hold ≡ 0 → hold ≡ 0) → (StartsMean h′ → A) → TestMade hold h h′
     → Keeps (h .stock .reference) (h′ .stock .reference) ⊎ A
 tested {A} hold h h′ z a t = go (testMoves hold h (h′ .window)) refl
   where

@@ -21,7 +21,7 @@ use Rattle.rules.specs.Messages.{taken, with-quote}
 use Rattle.rules.specs.Numbers.{badEnd, badSetup, badShape, rubbish, tells, settles, answer, afterSettling, notice, settleAnswer, fresh}
 use Rattle.rules.specs.Machine.{Machine, MachineLaws, Alike, Call, tell, settle, On, Event, message, moment, messages, notices, dated, Lawful, becomes, left, Calls, stock, numberIn, stepIn}
 use Rattle.rules.specs.Book.{machine, Story, Accepted, noSetup, blank, now, story, Settled, bookTells, bookSettles}
-use Rattle.rules.specs.Readings.{joined, recent, lastQuote, IsOneOf, IsBest, Starts, Refers, Referred, StartedBy, inWords, Taken, letterOf, leadsTo, markOf, ComesFirst, IsDated, lastDate, EndsLimit, countOf, MomentsOnly}
+use Rattle.rules.specs.Readings.{joined, recent, lastQuote, IsOneOf, IsBest, Starts, Refers, Referred, StartedBy, inWords, Acceptable, letterOf, leadsTo, markOf, ComesFirst, IsDated, lastDate, EndsLimit, countOf, MomentsOnly}
 use Rattle.rules.specs.Pauses.{before, PauseAt, LimitSince, PausedSince}
 use Rattle.rules.specs.Examples.{right, byHand}
 use Rattle.rules.specs.Days.{asPrinted, days}
@@ -66,16 +66,16 @@ OthersStay = (end : ℕ) (b : List Whole) (c : On (Call Message)) (i : ℕ) → 
     → stock machine (blank end) (stepIn machine (blank end) b c) i ≡ stock machine (blank end) b i
 
 -- A call's number, with the stock that it names as the call leaves it.
-abbrev pub shown : ℕ → List Whole → On (Call Message) → Answer
-shown end b c = answer (numberIn machine (blank end) b c) (stock machine (blank end) (stepIn machine (blank end) b c) (c .at) .stock)
+abbrev pub answerTo : ℕ → List Whole → On (Call Message) → Answer
+answerTo end b c = answer (numberIn machine (blank end) b c) (stock machine (blank end) (stepIn machine (blank end) b c) (c .at) .stock)
 
 -- A book of the right shape answers with these, 3 for a stock that there is not, and settling with the moment that it did, if any.
 abbrev pub BookAnswers : Type 0
 BookAnswers = (end : ℕ) (b : List Whole) (times prices i : ℕ) → badShape (length b) times prices ≡ false
-    → ((m : Message) → bookTells end b times prices i m ≡ shown end b (record { at = i; it = tell m }))
+    → ((m : Message) → bookTells end b times prices i m ≡ answerTo end b (record { at = i; it = tell m }))
     × ((time : ℕ) → let c : On (Call Message) = record { at = i; it = settle time } in
     bookSettles end b times prices i time ≡ record {
-      answer = shown end b c;
+      answer = answerTo end b c;
       moment = if eqb (numberIn machine (blank end) b c) 0 then nextOf (stock machine (blank end) b i) else no-moment;
     })
 
@@ -171,7 +171,7 @@ SameNotice = (h : Whole) (time : ℕ) → settles time h ≡ 0 → (settleAnswer
 -- A message is accepted exactly where it has all that it needs; settling does a moment exactly where one is due, at a time in range.
 abbrev pub AcceptedWhere : Type 0
 AcceptedWhere = (h : Whole)
-    → ((m : Message) → (tells m h ≡ 0) ↔ Taken m h)
+    → ((m : Message) → (tells m h ≡ 0) ↔ Acceptable m h)
     × ((time : ℕ) → (settles time h ≡ 0) ↔ ((rubbish h ≡ false) × (time ≤ h .stock .end + 300_000) × (dueBy time (nextOf h) ≡ true)))
 
 -- The table of message by state, in words.

@@ -69,11 +69,11 @@ pub data Edge : Type 0 where
   bad good : Whole → Edge
   -- a message to a record, and settling it to a time, with the number given
   told : Whole → Message → ℕ → Edge
-  settled : Whole → ℕ → ℕ → Edge
+  settles-to : Whole → ℕ → ℕ → Edge
   -- a call that names a stock of a book of so many stocks, times and prices
   names : (stocks times prices at : ℕ) → ℕ → Edge
   -- a setup of so many stocks, times and prices, to an end
-  starts : (stocks times prices end : ℕ) → List Setup → ℕ → Edge
+  sets-up : (stocks times prices end : ℕ) → List Setup → ℕ → Edge
   -- numbers of a record, or an answer as a line with a time and a mark
   shown : List ℕ → List ℕ → Edge
 
@@ -81,9 +81,9 @@ unfoldable pub asAnswered : Edge → Bool
 asAnswered (bad h) = rubbish h
 asAnswered (good h) = not (rubbish h)
 asAnswered (told h m number) = eqb (tells m h) number
-asAnswered (settled h time number) = eqb (settles time h) number
+asAnswered (settles-to h time number) = eqb (settles time h) number
 asAnswered (names stocks times prices at number) = eqb (first (callChecks stocks times prices at)) number
-asAnswered (starts stocks times prices end us number) = eqb (setsUp stocks times prices end us) number
+asAnswered (sets-up stocks times prices end us number) = eqb (setsUp stocks times prices end us) number
 asAnswered (shown is should) = sameNumbers is should
 
 unfoldable pub edges : List Edge
@@ -205,23 +205,23 @@ edges =
     told (sound 3 1_000_000 0 0 990_000 (referring 1 0 0) noQuotes []) (Q 1_000_000 0 1 1) 0 ∷
     told (sound 4 3_000_000 0 0 3_000_000 (referring 1 0 0) noQuotes []) (Q 3_000_000 0 1 1) 0 ∷
     -- settling: 1, 4, 14; a time before the clock is 14
-    settled (trading-with (referring 0 990_000 1) []) 3_900_001 1 ∷
-    settled (trading-with (referring 100_000 990_000 1) []) 3_900_001 4 ∷
-    settled (sound 5 3_600_000 0 0 0 (referring 1 0 0) noQuotes []) 3_900_001 4 ∷
-    settled (sound 5 3_600_000 0 0 0 (referring 1 0 0) noQuotes []) 3_900_000 14 ∷
-    settled (trading-with (referring 100_000 990_000 1) []) 0 14 ∷
-    settled (trading-with (referring 100_000 970_000 1) []) 1_000_000 0 ∷
+    settles-to (trading-with (referring 0 990_000 1) []) 3_900_001 1 ∷
+    settles-to (trading-with (referring 100_000 990_000 1) []) 3_900_001 4 ∷
+    settles-to (sound 5 3_600_000 0 0 0 (referring 1 0 0) noQuotes []) 3_900_001 4 ∷
+    settles-to (sound 5 3_600_000 0 0 0 (referring 1 0 0) noQuotes []) 3_900_000 14 ∷
+    settles-to (trading-with (referring 100_000 990_000 1) []) 0 14 ∷
+    settles-to (trading-with (referring 100_000 970_000 1) []) 1_000_000 0 ∷
     -- w until the clock is there, also in a Late pause; v and h in one too; nothing in Closed
-    settled (sound 1 899_999 0 0 0 (referring 1 890_000 1) noQuotes []) 900_000 0 ∷
-    settled (sound 1 900_000 0 0 0 (referring 1 890_000 1) noQuotes []) 900_000 14 ∷
-    settled (sound 4 2_099_999 0 0 0 (referring 1 0 0) noQuotes []) 2_100_000 0 ∷
-    settled (sound 4 2_100_000 0 0 0 (referring 1 0 0) noQuotes []) 2_100_000 14 ∷
-    settled (sound 4 899_999 0 0 0 (referring 1 0 0) noQuotes []) 900_000 0 ∷
-    settled (sound 0 899_999 0 0 0 (referring 0 0 0) noQuotes []) 900_000 0 ∷
-    settled (sound 0 2_099_999 0 0 0 (referring 0 0 0) noQuotes []) 2_100_000 0 ∷
-    settled (sound 4 1_000_000 0 0 0 (referring 1 0 0) noQuotes (trade 700_000 1 ∷ [])) 1_000_000 0 ∷
-    settled (sound 4 1_000_000 0 0 0 (referring 1 970_000 1) noQuotes []) 1_000_000 0 ∷
-    settled (sound 5 0 1 0 0 (referring 1 0 1) noQuotes (trade 0 1 ∷ [])) 3_900_000 14 ∷
+    settles-to (sound 1 899_999 0 0 0 (referring 1 890_000 1) noQuotes []) 900_000 0 ∷
+    settles-to (sound 1 900_000 0 0 0 (referring 1 890_000 1) noQuotes []) 900_000 14 ∷
+    settles-to (sound 4 2_099_999 0 0 0 (referring 1 0 0) noQuotes []) 2_100_000 0 ∷
+    settles-to (sound 4 2_100_000 0 0 0 (referring 1 0 0) noQuotes []) 2_100_000 14 ∷
+    settles-to (sound 4 899_999 0 0 0 (referring 1 0 0) noQuotes []) 900_000 0 ∷
+    settles-to (sound 0 899_999 0 0 0 (referring 0 0 0) noQuotes []) 900_000 0 ∷
+    settles-to (sound 0 2_099_999 0 0 0 (referring 0 0 0) noQuotes []) 2_100_000 0 ∷
+    settles-to (sound 4 1_000_000 0 0 0 (referring 1 0 0) noQuotes (trade 700_000 1 ∷ [])) 1_000_000 0 ∷
+    settles-to (sound 4 1_000_000 0 0 0 (referring 1 970_000 1) noQuotes []) 1_000_000 0 ∷
+    settles-to (sound 5 0 1 0 0 (referring 1 0 1) noQuotes (trade 0 1 ∷ [])) 3_900_000 14 ∷
     -- in one millisecond z before h; and, though no story brings them together, p before h and v, c before v
     shown (settleAnswer 3_600_000 (sound 1 3_590_000 0 0 0 (referring 1 3_570_000 1) noQuotes []) .moment .mark ∷ []) (mark-z ∷ []) ∷
     shown (settleAnswer 1_000_000 (sound 3 990_000 0 0 400_000 (referring 1 970_000 1) noQuotes []) .moment .mark ∷ []) (mark-p ∷ []) ∷
@@ -245,16 +245,16 @@ edges =
     names 64 32_768 32_768 63 0 ∷
     names 65 33_280 33_280 0 1 ∷
     -- setup: 1 and 2
-    starts 0 0 0 3_600_000 [] 1 ∷
-    starts 65 33_280 33_280 3_600_000 (replicate 65 (listed 1)) 1 ∷
-    starts 64 32_768 32_768 3_600_000 (replicate 64 (listed 1)) 0 ∷
-    starts 1 511 512 0 (listed 1 ∷ []) 1 ∷
-    starts 1 512 513 0 (listed 1 ∷ []) 1 ∷
-    starts 1 512 512 0 [] 1 ∷
-    starts 1 512 512 3_600_000 (listed 1 ∷ listed 1 ∷ []) 1 ∷
-    starts 1 513 512 3_600_000 (listed 1 ∷ []) 1 ∷
-    starts 1 512 512 0 (listed 1 ∷ []) 2 ∷
-    starts 2 1_024 1_024 3_600_000 (listed 1 ∷ listed 3 ∷ []) 2 ∷
+    sets-up 0 0 0 3_600_000 [] 1 ∷
+    sets-up 65 33_280 33_280 3_600_000 (replicate 65 (listed 1)) 1 ∷
+    sets-up 64 32_768 32_768 3_600_000 (replicate 64 (listed 1)) 0 ∷
+    sets-up 1 511 512 0 (listed 1 ∷ []) 1 ∷
+    sets-up 1 512 513 0 (listed 1 ∷ []) 1 ∷
+    sets-up 1 512 512 0 [] 1 ∷
+    sets-up 1 512 512 3_600_000 (listed 1 ∷ listed 1 ∷ []) 1 ∷
+    sets-up 1 513 512 3_600_000 (listed 1 ∷ []) 1 ∷
+    sets-up 1 512 512 0 (listed 1 ∷ []) 2 ∷
+    sets-up 2 1_024 1_024 3_600_000 (listed 1 ∷ listed 3 ∷ []) 2 ∷
     -- the first five minutes: no reference before 300,000, an opening until then; one trade is enough for f
     shown (stateOf (afterSettling 300_000 (sound 0 100_000 1 0 0 (referring 0 0 0) noQuotes (trade 100_000 1 ∷ [])) .stock) ∷ []) (Trading ∷ []) ∷
     shown (stateOf (afterTelling (T 299_999 1) (fresh 3_600_000 (listed 2)) .stock) ∷ []) (Waiting ∷ []) ∷

@@ -151,8 +151,8 @@ testMoves hold h w = allOf (
     [])
 
 -- it is the mean exactly where the Test changes it, and else as it was, with that hold
-abbrev pub Tested : ℕ → Whole → Whole → Type 0
-Tested hold h h′ =
+abbrev pub TestMade : ℕ → Whole → Whole → Type 0
+TestMade hold h h′ =
     (testMoves hold h (h′ .window) ≡ true → StartsMean h′)
     × (testMoves hold h (h′ .window) ≡ false
     → h′ .stock .reference ≡ record { price = h .stock .reference .price; start = h .stock .reference .start; hold = hold })
@@ -162,8 +162,8 @@ Tested hold h h′ =
 abbrev pub RefersAt : Whole → Moment → Whole → Type 0
 RefersAt h m h′ =
     (m .mark ≡ mark-p → Starts (h .stock .reference .price) h′)
-    × (m .mark ≡ mark-v → Tested (h .stock .reference .hold) h h′)
-    × (m .mark ≡ mark-h → Tested 0 h h′)
+    × (m .mark ≡ mark-v → TestMade (h .stock .reference .hold) h h′)
+    × (m .mark ≡ mark-h → TestMade 0 h h′)
     × (m .mark ≡ mark-f → (h′ .window ≡ [] → AsBefore h h′) × (1 ≤ length (h′ .window) → StartsMean h′))
     × (anyOf (eqb (m .mark) mark-z ∷ eqb (m .mark) mark-w ∷ eqb (m .mark) mark-x ∷ eqb (m .mark) mark-c ∷ []) ≡ true → AsBefore h h′)
 
@@ -173,7 +173,7 @@ RefersAt h m h′ =
 abbrev pub Refers : Whole → Event Message Notice → Whole → Type 0
 Refers h (message (T time price)) h′ =
     (stateOf (h .stock) ≡ Waiting → (300_000 ≤ time → StartsMean h′) × (time < 300_000 → AsBefore h h′))
-    × ((stateOf (h .stock) ≡ Waiting → ⊥) → Tested (h .stock .reference .hold) h h′)
+    × ((stateOf (h .stock) ≡ Waiting → ⊥) → TestMade (h .stock .reference .hold) h h′)
 Refers h (message (Q time participant bid offer)) h′ =
     (EndsLimit (message (Q time participant bid offer)) h → StartsMean h′ ⊎ ((h′ .window ≡ []) × Starts (h .stock .reference .price) h′))
     × ((EndsLimit (message (Q time participant bid offer)) h → ⊥) → AsBefore h h′)
@@ -246,24 +246,24 @@ FromPrimary primary (R time participant price) = participant ≡ primary
 FromPrimary primary (X time participant price) = participant ≡ primary
 
 -- T within bands in force, and fewer than 512 held; O before 300,000; P with flag 2 on a side; R 300,000 after the pause began; X from E on
-abbrev pub InTime : Message → Whole → Type 0
-InTime (T time price) h =
+abbrev pub OwnNeeds : Message → Whole → Type 0
+OwnNeeds (T time price) h =
     (inForce (h .stock) ≡ true → (bandsIn (h .stock) .lower ≤ price) × (price ≤ bandsIn (h .stock) .upper)) × (length (h .window) < 512)
-InTime (Q time participant bid offer) h = Unit {0}
-InTime (O time participant price) h = time < 300_000
-InTime (P time participant) h = straddle (h .stock) ≡ true
-InTime (R time participant price) h = h .stock .course .pause + 300_000 ≤ time
-InTime (X time participant price) h = h .stock .end ≤ time
+OwnNeeds (Q time participant bid offer) h = Unit {0}
+OwnNeeds (O time participant price) h = time < 300_000
+OwnNeeds (P time participant) h = straddle (h .stock) ≡ true
+OwnNeeds (R time participant price) h = h .stock .course .pause + 300_000 ≤ time
+OwnNeeds (X time participant price) h = h .stock .end ≤ time
 
 -- all that a message needs
-pub record Taken (m : Message) (h : Whole) : Type 0 where
+pub record Acceptable (m : Message) (h : Whole) : Type 0 where
   pub sound : rubbish h ≡ false
   pub in-range : outOfRange (h .stock .end) m ≡ false
   pub not-back : clockOf (h .stock) ≤ timeOf m
   pub none-due : dueBy (timeOf m) (nextOf h) ≡ false
   pub from-primary : FromPrimary (h .stock .setup .primary) m
   pub by-state : inWords (kind m) (stateOf (h .stock)) ≡ 0
-  pub in-time : InTime m h
+  pub own-needs : OwnNeeds m h
 
 -- ------------------------------------------------------------------ the state ("States", "Moments", "Messages")
 
