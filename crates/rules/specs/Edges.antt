@@ -10,8 +10,8 @@ use Rattle.forms.specs.Checks.{first}
 use Rattle.band.specs.Examples
 use Rattle.rules.specs.Stock.{Waiting, Paused, Late, stateOf, Trade, Whole, Trading}
 use Rattle.rules.specs.States.{noQuotes}
-use Rattle.rules.specs.Moments.{mark-z, mark-p, mark-c, mark-h}
-use Rattle.rules.specs.Messages.{taken}
+use Rattle.rules.specs.Moments.{mark-z, mark-p, mark-c, mark-h, mark-w, mark-x, mark-v, mark-f}
+use Rattle.rules.specs.Messages.{taken, letter-T, letter-Q, letter-O, letter-P, letter-R, letter-X}
 use Rattle.rules.specs.Numbers.{rubbish, tells, settles, fresh, callChecks, setsUp, answer, setupAnswer, afterTelling, afterSettling, tellAnswer, settleAnswer}
 use Rattle.rules.specs.Book.{bookTells, bookSettles}
 use Rattle.rules.specs.Days.{line, noticed, sameNumbers, listed}
@@ -259,6 +259,12 @@ edges =
     shown (stateOf (afterSettling 300_000 (sound 0 100_000 1 0 0 (referring 0 0 0) noQuotes (trade 100_000 1 ∷ [])) .stock) ∷ []) (Trading ∷ []) ∷
     shown (stateOf (afterTelling (T 299_999 1) (fresh 3_600_000 (listed 2)) .stock) ∷ []) (Waiting ∷ []) ∷
     told (fresh 3_600_000 (listed 2)) (O 299_999 2 1) 0 ∷
+    -- the codes of the letters and of the marks
+    shown (letter-T ∷ letter-Q ∷ letter-O ∷ letter-P ∷ letter-R ∷ letter-X ∷ []) (84 ∷ 81 ∷ 79 ∷ 80 ∷ 82 ∷ 88 ∷ []) ∷
+    shown (mark-z ∷ mark-w ∷ mark-x ∷ mark-p ∷ mark-c ∷ mark-v ∷ mark-f ∷ mark-h ∷ []) (122 ∷ 119 ∷ 120 ∷ 112 ∷ 99 ∷ 118 ∷ 102 ∷ 104 ∷ []) ∷
+    -- an opening and a closing in a state that does not take them
+    told (trading-with (referring 100_000 990_000 1) []) (O 1_000_000 2 1) 9 ∷
+    told (trading-with (referring 100_000 990_000 1) []) (X 1_000_000 2 1) 9 ∷
     -- there is no state over 5
     shown (taken 0 6 ∷ []) (7 ∷ []) ∷
     -- a stock as setup starts it
