@@ -1,4 +1,4 @@
--- What an event does to clock, setup and end, and what a story does.
+-- What an event does to clock, setup and end, what a story does, and what holds throughout one.
 -- Assumes nothing.
 use Prim.Native.Nat.{_≤_}
 use mathlib.Core.List.{[], _∷_}
@@ -6,7 +6,7 @@ use mathlib.Core.Path.{_≡_, refl, ap, _∙_}
 use Rattle.rules.specs.Stock.{Whole, clockOf}
 use Rattle.rules.specs.Moments.{nextOf, fire}
 use Rattle.rules.specs.Numbers.{notice}
-use Rattle.rules.specs.Machine.{Event, message, moment, dated, Lawful, becomes, left}
+use Rattle.rules.specs.Machine.{Event, message, moment, dated, Lawful, becomes, left, Throughout}
 use Rattle.rules.specs.Book.{machine, Story}
 use Rattle.rules.specs.Readings.{lastDate}
 use Rattle.rules.specs.declared.Notice.{Notice}
@@ -39,6 +39,10 @@ module _ (h : Whole) where
   pub event-forward : (e : Event Message Notice) (es : Story) → Lawful machine h (e ∷ es) → clockOf (h .stock) ≤ dated machine e
   event-forward (message m) es v = machineLaws .not-back m h (v .0)
   event-forward (moment n) es v = rw (v .1) (machineLaws .forward (v .0 .0) h (v .0 .1))
+
+pub at-start : (P : Whole → Type 0) (h : Whole) (es : Story) → Throughout machine P h es → P h
+at-start P h [] k = k
+at-start P h (e ∷ es) k = k .0
 
 pub kept-left : (h : Whole) (es : Story) → Lawful machine h es
     → kept (left machine h es .stock) ≡ (lastDate (clockOf (h .stock)) es, h .stock .setup, h .stock .end)

@@ -14,16 +14,16 @@ use Rattle.rules.specs.States.{begin-pause, shut}
 use Rattle.rules.specs.Moments.{mark-x, come, nextOf, fire}
 use Rattle.rules.specs.Messages.{letter-P, does, after}
 use Rattle.rules.specs.Numbers.{notice}
-use Rattle.rules.specs.Machine.{Event, message, moment, dated, Lawful, becomes, left}
+use Rattle.rules.specs.Machine.{Event, message, moment, dated, Lawful, becomes, left, Throughout}
 use Rattle.rules.specs.Book.{machine, Story}
 use Rattle.rules.specs.Readings.{IsOneOf, letterOf, leadsTo, stateTable, rowOf}
-use Rattle.rules.specs.Pauses.{inPause, PauseLasts, PausedSince}
+use Rattle.rules.specs.Pauses.{inPause, PausedSince}
 use Rattle.rules.specs.Demands.{CanHappen}
 use Rattle.rules.specs.declared.Stock.{Stock}
 use Rattle.rules.specs.declared.Notice.{Notice}
 use Rattle.rules.specs.declared.Message.{Message}
 use Rattle.rules.specs.declared.Message.the-variants.{Trade as T, Quote as Q, Opening as O, Pause as P, Reopening as R, Closing as X}
-use Rattle.rules.proofs.Events.{first-lawful, rest-lawful}
+use Rattle.rules.proofs.Events.{at-start, first-lawful, rest-lawful}
 use Rattle.rules.proofs.Kept.{Stands, look-stands, trading-stands, test-stands, five-stands, trade-stands, quote-stands, effect-by}
 use Rattle.rules.proofs.StateTable.{states}
 
@@ -103,13 +103,9 @@ ends h e v p = go (inPause h) refl
 
 -- ------------------------------------------------------------------ a story
 
-lasts-start : (h : Whole) (es : Story) → PauseLasts h es → inPause h ≡ true
-lasts-start h [] l = l
-lasts-start h (e ∷ es) l = l .0
-
 -- a pause that began at t has lasted, before the story or in it
 abbrev Lasted : ℕ → Whole → Story → Type 0
-Lasted t h es = (PauseLasts h es × (h .stock .course .pause ≡ t)) ⊎ PausedSince t h es
+Lasted t h es = (Throughout machine (λ h. inPause h ≡ true) h es × (h .stock .course .pause ≡ t)) ⊎ PausedSince t h es
 
 lasted : (h : Whole) (es : Story) → Lawful machine h es → inPause (left machine h es) ≡ true
     → Lasted (left machine h es .stock .course .pause) h es
@@ -119,12 +115,12 @@ lasted h (e ∷ es) v p = go (lasted (becomes machine h e) es (rest-lawful h e e
     t : ℕ
     t = left machine h (e ∷ es) .stock .course .pause
 
-    one-more : PauseLasts (becomes machine h e) es → becomes machine h e .stock .course .pause ≡ t → Ends e h → Lasted t h (e ∷ es)
+    one-more : Throughout machine (λ h. inPause h ≡ true) (becomes machine h e) es → becomes machine h e .stock .course .pause ≡ t → Ends e h → Lasted t h (e ∷ es)
     one-more l k (begins q d) = inr (inl (sym d ∙ k, q, l))
     one-more l k (keeps q d) = inl ((q, l), sym d ∙ k)
 
     go : Lasted t (becomes machine h e) es → Lasted t h (e ∷ es)
-    go (inl k) = one-more (k .0) (k .1) (ends h e (first-lawful h e es v) (lasts-start _ es (k .0)))
+    go (inl k) = one-more (k .0) (k .1) (ends h e (first-lawful h e es v) (at-start _ _ es (k .0)))
     go (inr k) = inr (inr k)
 
 -- from a stock that is in no pause
@@ -133,5 +129,5 @@ pub paused-since : (h : Whole) (es : Story) → inPause h ≡ false → Lawful m
 paused-since h es n v p = go (lasted h es v p)
   where
     go : Lasted (left machine h es .stock .course .pause) h es → PausedSince (left machine h es .stock .course .pause) h es
-    go (inl k) = absurd (true≢false (sym (lasts-start h es (k .0)) ∙ n))
+    go (inl k) = absurd (true≢false (sym (at-start _ h es (k .0)) ∙ n))
     go (inr k) = k

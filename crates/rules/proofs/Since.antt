@@ -24,7 +24,7 @@ use Rattle.rules.specs.declared.Reference.{Reference}
 use Rattle.rules.specs.declared.Notice.{Notice}
 use Rattle.rules.specs.declared.Message.{Message}
 use Rattle.rules.specs.declared.Message.the-variants.{Trade as T, Quote as Q, Opening as O, Pause as P, Reopening as R, Closing as X}
-use Rattle.rules.proofs.Events.{first-lawful, rest-lawful, event-clock}
+use Rattle.rules.proofs.Events.{at-start, first-lawful, rest-lawful, event-clock}
 use Rattle.rules.proofs.MomentRows.{IsRow, row-z, row-w-early, row-w-late, row-x, row-p, row-c, row-v, row-f, row-h, notice-row}
 use Rattle.rules.proofs.References.{none-or-some, reference}
 
@@ -126,11 +126,6 @@ by-event h (moment n) v = by-row h n (reference h (moment n) v) (notice-row h n 
 
 -- ------------------------------------------------------------------ a story
 
-referred-start : (price start : ℕ) (h : Whole) (es : Story) → Referred price start h es
-    → (h .stock .reference .price ≡ price) × (h .stock .reference .start ≡ start)
-referred-start price start h [] k = k
-referred-start price start h (e ∷ es) k = (k .0, k .1)
-
 -- the reference has lasted from before the story, with no new hold, or since an event of it
 abbrev Lasted : Reference → Whole → Story → Type 0
 Lasted r h es =
@@ -148,9 +143,9 @@ lasted h (e ∷ es) v = go (lasted h′ es (rest-lawful h e es v))
 
     one-more : Referred (r .price) (r .start) h′ es → (h′ .stock .reference .hold ≡ 0 → r .hold ≡ 0) → Moves h e → Lasted r h (e ∷ es)
     one-more k z (inl m) =
-        let s = referred-start _ _ h′ es k in inl ((sym (m .0) ∙ s .0, sym (m .1) ∙ s .1, k), λ x. z (m .2 x))
+        let s = at-start _ h′ es k in inl (((sym (m .0) ∙ s .0, sym (m .1) ∙ s .1), k), λ x. z (m .2 x))
     one-more k z (inr m) =
-        let s = referred-start _ _ h′ es k in
+        let s = at-start _ h′ es k in
         inr (inl (sym (event-clock h e es v) ∙ sym (m .1) ∙ s .1, subst (λ price. MayStart price h e) (s .0) (m .0), k))
 
     go : Lasted r h′ es → Lasted r h (e ∷ es)
@@ -171,7 +166,7 @@ reference-since end u es a = go (lasted (fresh end u) es (a .lawful))
     go : Lasted r (fresh end u) es
         → ((r ≡ record { price = 0; start = 0; hold = 0 }) × Referred 0 0 (fresh end u) es) ⊎ StartedBy (r .price) (r .start) (fresh end u) es
     go (inl k) =
-        let s = referred-start _ _ (fresh end u) es (k .0) in
+        let s = at-start _ (fresh end u) es (k .0) in
         inl (
           of-fields r (sym (s .0)) (sym (s .1)) (k .1 refl),
           subst (λ p. Referred p 0 (fresh end u) es) (sym (s .0)) (subst (λ t. Referred (r .price) t (fresh end u) es) (sym (s .1)) (k .0)),

@@ -5,7 +5,6 @@ use mathlib.Core.Bool.{Bool, true, false}
 use mathlib.Core.List.{List, [], _∷_, _++_}
 use lib.Dec.{eqb}
 use Rattle.forms.specs.Choice.{if_then_else_}
-use Rattle.band.specs.Examples
 use Rattle.rules.specs.Stock.{Whole}
 use Rattle.rules.specs.Moments.{mark-z, mark-w, mark-x, mark-p, mark-c, mark-v, mark-f, mark-h}
 use Rattle.rules.specs.Messages.{letter-T, letter-Q, letter-O, letter-P, letter-R, letter-X, letter, timeOf}

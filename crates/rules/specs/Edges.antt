@@ -7,7 +7,6 @@ use mathlib.Core.List.{List, [], _∷_}
 use lib.Dec.{eqb}
 use lib.ListN.{length, set, replicate}
 use Rattle.forms.specs.Checks.{first}
-use Rattle.band.specs.Examples
 use Rattle.rules.specs.Stock.{Waiting, Paused, Late, stateOf, Trade, Whole, Trading}
 use Rattle.rules.specs.States.{noQuotes}
 use Rattle.rules.specs.Moments.{mark-z, mark-p, mark-c, mark-h, mark-w, mark-x, mark-v, mark-f}
@@ -43,6 +42,18 @@ trade at price = record { at = at; price = price }
 -- Trading at 1,000,000, with a reference and a window
 abbrev trading-with : Reference → List Trade → Whole
 trading-with r w = sound 1 1_000_000 0 0 0 r noQuotes w
+
+-- Trading within a hold, with no quote and no trade
+abbrev plain : Whole
+plain = trading-with (referring 100_000 990_000 1) []
+
+-- a Late pause, at the session's end
+abbrev late-at-end : Whole
+late-at-end = sound 4 3_600_000 0 0 3_000_000 (referring 1 0 0) noQuotes []
+
+-- as setup leaves it
+abbrev new-stock : Whole
+new-stock = fresh 3_600_000 (listed 2)
 
 -- Trading at a time, with a best bid below the lower band
 abbrev straddled : ℕ → Whole
@@ -150,48 +161,48 @@ edges =
     bad (set-up-as 3_600_000 (record { tier = 1; leverage = 1; primary = 0; close = 1_000_000_000 })) ∷
     -- one check before a later one: 1 and 4, 4 and 5, 5 and 8, 6 and 8, 8 and 9, 11 and 13, 12 and 13
     told (trading-with (referring 0 990_000 1) []) (T 1_000_000 0) 1 ∷
-    told (trading-with (referring 100_000 990_000 1) []) (T 999_999 0) 4 ∷
-    told (trading-with (referring 100_000 990_000 1) []) (R 999_999 3 100_000) 5 ∷
+    told plain (T 999_999 0) 4 ∷
+    told plain (R 999_999 3 100_000) 5 ∷
     told (trading-with (referring 100_000 970_000 1) []) (R 1_000_000 3 100_000) 6 ∷
-    told (trading-with (referring 100_000 990_000 1) []) (R 1_000_000 3 100_000) 8 ∷
-    told (trading-with (referring 100_000 990_000 1) []) (R 1_000_000 2 100_000) 9 ∷
+    told plain (R 1_000_000 3 100_000) 8 ∷
+    told plain (R 1_000_000 2 100_000) 9 ∷
     told (sound 3 1_000_000 0 0 990_000 (referring 1 0 0) noQuotes (replicate 512 (trade 990_000 1))) (T 1_000_000 1) 11 ∷
     told (trading-with (referring 100_000 990_000 1) (replicate 512 (trade 990_000 100_000))) (T 1_000_000 89_999) 12 ∷
     told (trading-with (referring 100_000 990_000 1) (replicate 512 (trade 990_000 100_000))) (T 1_000_000 90_000) 13 ∷
     told (trading-with (referring 100_000 990_000 1) (replicate 511 (trade 990_000 100_000))) (T 1_000_000 110_000) 0 ∷
-    told (trading-with (referring 100_000 990_000 1) []) (T 1_000_000 110_001) 12 ∷
+    told plain (T 1_000_000 110_001) 12 ∷
     -- ranges of a message
-    told (trading-with (referring 100_000 990_000 1) []) (Q 1_000_000 15 999_999_999 0) 0 ∷
-    told (trading-with (referring 100_000 990_000 1) []) (Q 1_000_000 16 0 0) 4 ∷
-    told (trading-with (referring 100_000 990_000 1) []) (Q 1_000_000 15 0 1_000_000_000) 4 ∷
-    told (trading-with (referring 100_000 990_000 1) []) (Q 1_000_000 15 1_000_000_000 0) 4 ∷
-    told (trading-with (referring 100_000 990_000 1) []) (Q 3_900_001 15 0 0) 4 ∷
-    told (trading-with (referring 100_000 990_000 1) []) (T 1_000_000 1_000_000_000) 4 ∷
-    told (trading-with (referring 100_000 990_000 1) []) (T 3_900_001 100_000) 4 ∷
-    told (trading-with (referring 100_000 990_000 1) []) (P 1_000_000 16) 4 ∷
-    told (trading-with (referring 100_000 990_000 1) []) (P 3_900_001 2) 4 ∷
-    told (fresh 3_600_000 (listed 2)) (O 0 16 1) 4 ∷
-    told (fresh 3_600_000 (listed 2)) (O 0 2 0) 4 ∷
-    told (fresh 3_600_000 (listed 2)) (O 0 2 1_000_000_000) 4 ∷
-    told (fresh 3_600_000 (listed 2)) (O 3_900_001 2 1) 4 ∷
-    told (fresh 3_600_000 (listed 2)) (R 0 16 1) 4 ∷
-    told (fresh 3_600_000 (listed 2)) (R 0 2 0) 4 ∷
-    told (fresh 3_600_000 (listed 2)) (R 0 2 1_000_000_000) 4 ∷
-    told (fresh 3_600_000 (listed 2)) (R 3_900_001 2 1) 4 ∷
-    told (sound 4 3_600_000 0 0 3_000_000 (referring 1 0 0) noQuotes []) (X 3_600_000 16 1) 4 ∷
-    told (sound 4 3_600_000 0 0 3_000_000 (referring 1 0 0) noQuotes []) (X 3_600_000 2 1_000_000_000) 4 ∷
-    told (sound 4 3_600_000 0 0 3_000_000 (referring 1 0 0) noQuotes []) (X 3_600_000 2 0) 4 ∷
-    told (sound 4 3_600_000 0 0 3_000_000 (referring 1 0 0) noQuotes []) (X 3_900_001 2 1) 4 ∷
-    told (sound 4 3_600_000 0 0 3_000_000 (referring 1 0 0) noQuotes []) (X 3_600_000 2 1) 0 ∷
+    told plain (Q 1_000_000 15 999_999_999 0) 0 ∷
+    told plain (Q 1_000_000 16 0 0) 4 ∷
+    told plain (Q 1_000_000 15 0 1_000_000_000) 4 ∷
+    told plain (Q 1_000_000 15 1_000_000_000 0) 4 ∷
+    told plain (Q 3_900_001 15 0 0) 4 ∷
+    told plain (T 1_000_000 1_000_000_000) 4 ∷
+    told plain (T 3_900_001 100_000) 4 ∷
+    told plain (P 1_000_000 16) 4 ∷
+    told plain (P 3_900_001 2) 4 ∷
+    told new-stock (O 0 16 1) 4 ∷
+    told new-stock (O 0 2 0) 4 ∷
+    told new-stock (O 0 2 1_000_000_000) 4 ∷
+    told new-stock (O 3_900_001 2 1) 4 ∷
+    told new-stock (R 0 16 1) 4 ∷
+    told new-stock (R 0 2 0) 4 ∷
+    told new-stock (R 0 2 1_000_000_000) 4 ∷
+    told new-stock (R 3_900_001 2 1) 4 ∷
+    told late-at-end (X 3_600_000 16 1) 4 ∷
+    told late-at-end (X 3_600_000 2 1_000_000_000) 4 ∷
+    told late-at-end (X 3_600_000 2 0) 4 ∷
+    told late-at-end (X 3_900_001 2 1) 4 ∷
+    told late-at-end (X 3_600_000 2 1) 0 ∷
     -- not the primary: O, P and X, and R above
-    told (fresh 3_600_000 (listed 2)) (O 0 3 1) 8 ∷
-    told (fresh 3_600_000 (listed 2)) (O 0 2 1) 0 ∷
-    told (trading-with (referring 100_000 990_000 1) []) (P 1_000_000 3) 8 ∷
-    told (sound 4 3_600_000 0 0 3_000_000 (referring 1 0 0) noQuotes []) (X 3_600_000 3 1) 8 ∷
-    told (fresh 3_600_000 (listed 2)) (O 0 1 1) 8 ∷
-    told (trading-with (referring 100_000 990_000 1) []) (P 1_000_000 1) 8 ∷
-    told (trading-with (referring 100_000 990_000 1) []) (R 1_000_000 1 100_000) 8 ∷
-    told (sound 4 3_600_000 0 0 3_000_000 (referring 1 0 0) noQuotes []) (X 3_600_000 1 1) 8 ∷
+    told new-stock (O 0 3 1) 8 ∷
+    told new-stock (O 0 2 1) 0 ∷
+    told plain (P 1_000_000 3) 8 ∷
+    told late-at-end (X 3_600_000 3 1) 8 ∷
+    told new-stock (O 0 1 1) 8 ∷
+    told plain (P 1_000_000 1) 8 ∷
+    told plain (R 1_000_000 1 100_000) 8 ∷
+    told late-at-end (X 3_600_000 1 1) 8 ∷
     -- the message's time decides, and not the clock: X at E, O at 300,000, a late T in Waiting, which no band stops
     told (sound 4 3_005_000 0 0 3_005_000 (referring 1 0 0) noQuotes []) (X 3_600_000 2 1) 0 ∷
     told (sound 4 3_005_000 0 0 3_005_000 (referring 1 0 0) noQuotes []) (X 3_599_999 2 1) 10 ∷
@@ -206,10 +217,10 @@ edges =
     told (sound 4 3_000_000 0 0 3_000_000 (referring 1 0 0) noQuotes []) (Q 3_000_000 0 1 1) 0 ∷
     -- settling: 1, 4, 14; a time before the clock is 14
     settles-to (trading-with (referring 0 990_000 1) []) 3_900_001 1 ∷
-    settles-to (trading-with (referring 100_000 990_000 1) []) 3_900_001 4 ∷
+    settles-to plain 3_900_001 4 ∷
     settles-to (sound 5 3_600_000 0 0 0 (referring 1 0 0) noQuotes []) 3_900_001 4 ∷
     settles-to (sound 5 3_600_000 0 0 0 (referring 1 0 0) noQuotes []) 3_900_000 14 ∷
-    settles-to (trading-with (referring 100_000 990_000 1) []) 0 14 ∷
+    settles-to plain 0 14 ∷
     settles-to (trading-with (referring 100_000 970_000 1) []) 1_000_000 0 ∷
     -- w until the clock is there, also in a Late pause; v and h in one too; nothing in Closed
     settles-to (sound 1 899_999 0 0 0 (referring 1 890_000 1) noQuotes []) 900_000 0 ∷
@@ -257,29 +268,31 @@ edges =
     sets-up 2 1_024 1_024 3_600_000 (listed 1 ∷ listed 3 ∷ []) 2 ∷
     -- the first five minutes: no reference before 300,000, an opening until then; one trade is enough for f
     shown (stateOf (afterSettling 300_000 (sound 0 100_000 1 0 0 (referring 0 0 0) noQuotes (trade 100_000 1 ∷ [])) .stock) ∷ []) (Trading ∷ []) ∷
-    shown (stateOf (afterTelling (T 299_999 1) (fresh 3_600_000 (listed 2)) .stock) ∷ []) (Waiting ∷ []) ∷
-    told (fresh 3_600_000 (listed 2)) (O 299_999 2 1) 0 ∷
+    shown (stateOf (afterTelling (T 299_999 1) new-stock .stock) ∷ []) (Waiting ∷ []) ∷
+    told new-stock (O 299_999 2 1) 0 ∷
     -- the codes of the letters and of the marks
     shown (letter-T ∷ letter-Q ∷ letter-O ∷ letter-P ∷ letter-R ∷ letter-X ∷ []) (84 ∷ 81 ∷ 79 ∷ 80 ∷ 82 ∷ 88 ∷ []) ∷
     shown (mark-z ∷ mark-w ∷ mark-x ∷ mark-p ∷ mark-c ∷ mark-v ∷ mark-f ∷ mark-h ∷ []) (122 ∷ 119 ∷ 120 ∷ 112 ∷ 99 ∷ 118 ∷ 102 ∷ 104 ∷ []) ∷
     -- an opening and a closing in a state that does not take them
-    told (trading-with (referring 100_000 990_000 1) []) (O 1_000_000 2 1) 9 ∷
-    told (trading-with (referring 100_000 990_000 1) []) (X 1_000_000 2 1) 9 ∷
+    told plain (O 1_000_000 2 1) 9 ∷
+    told plain (X 1_000_000 2 1) 9 ∷
     -- there is no state over 5
     shown (taken 0 6 ∷ []) (7 ∷ []) ∷
     -- a stock as setup starts it
-    shown (numbersOf (fresh 3_600_000 (listed 2))) (0 ∷ 0 ∷ 1 ∷ 0 ∷ 0 ∷ 0 ∷ 0 ∷ 0 ∷ 16 ∷ 16 ∷ 0 ∷ []) ∷
+    shown (numbersOf new-stock) (0 ∷ 0 ∷ 1 ∷ 0 ∷ 0 ∷ 0 ∷ 0 ∷ 0 ∷ 16 ∷ 16 ∷ 0 ∷ []) ∷
+    -- and after its opening: a start, a new hold, the price alone in the window
+    shown (numbersOf (afterTelling (O 1_000 2 100_000) new-stock)) (1 ∷ 1_000 ∷ 1 ∷ 0 ∷ 0 ∷ 100_000 ∷ 1_000 ∷ 1 ∷ 16 ∷ 16 ∷ 1 ∷ []) ∷
     -- zeros after 1, 2 and 3, and beside a setup that is done; no mark and no time where settling did nothing
     shown (line 0 0 (tellAnswer (T 1_000_000 1) (trading-with (referring 0 990_000 1) []))) (0 ∷ 0 ∷ 1 ∷ 0 ∷ 0 ∷ 0 ∷ 0 ∷ 0 ∷ 0 ∷ 0 ∷ 0 ∷ []) ∷
     shown (line 0 0 (answer 2 (trading-with (referring 1 990_000 1) [] .stock))) (0 ∷ 0 ∷ 2 ∷ 0 ∷ 0 ∷ 0 ∷ 0 ∷ 0 ∷ 0 ∷ 0 ∷ 0 ∷ []) ∷
     shown (line 0 0 (answer 3 (trading-with (referring 1 990_000 1) [] .stock))) (0 ∷ 0 ∷ 3 ∷ 0 ∷ 0 ∷ 0 ∷ 0 ∷ 0 ∷ 0 ∷ 0 ∷ 0 ∷ []) ∷
     shown (line 0 0 (setupAnswer 1 512 512 0 (listed 1 ∷ []))) (0 ∷ 0 ∷ 2 ∷ 0 ∷ 0 ∷ 0 ∷ 0 ∷ 0 ∷ 0 ∷ 0 ∷ 0 ∷ []) ∷
     shown (line 0 0 (setupAnswer 1 512 512 3_600_000 (listed 1 ∷ []))) (0 ∷ 0 ∷ 0 ∷ 0 ∷ 0 ∷ 0 ∷ 0 ∷ 0 ∷ 0 ∷ 0 ∷ 0 ∷ []) ∷
-    shown (line 0 0 (bookTells 3_600_000 (fresh 3_600_000 (listed 2) ∷ []) 512 512 1 (T 0 1))) (0 ∷ 0 ∷ 3 ∷ 0 ∷ 0 ∷ 0 ∷ 0 ∷ 0 ∷ 0 ∷ 0 ∷ 0 ∷ []) ∷
+    shown (line 0 0 (bookTells 3_600_000 (new-stock ∷ []) 512 512 1 (T 0 1))) (0 ∷ 0 ∷ 3 ∷ 0 ∷ 0 ∷ 0 ∷ 0 ∷ 0 ∷ 0 ∷ 0 ∷ 0 ∷ []) ∷
     -- 1 for the shape before 3, and 3 before what the stock would answer
-    shown (line 0 0 (bookTells 3_600_000 (fresh 3_600_000 (listed 2) ∷ []) 511 512 1 (T 0 1))) (0 ∷ 0 ∷ 1 ∷ 0 ∷ 0 ∷ 0 ∷ 0 ∷ 0 ∷ 0 ∷ 0 ∷ 0 ∷ []) ∷
+    shown (line 0 0 (bookTells 3_600_000 (new-stock ∷ []) 511 512 1 (T 0 1))) (0 ∷ 0 ∷ 1 ∷ 0 ∷ 0 ∷ 0 ∷ 0 ∷ 0 ∷ 0 ∷ 0 ∷ 0 ∷ []) ∷
     shown (line 0 0 (bookTells 3_600_000 (trading-with (referring 0 0 0) [] ∷ []) 512 512 1 (T 0 1))) (0 ∷ 0 ∷ 3 ∷ 0 ∷ 0 ∷ 0 ∷ 0 ∷ 0 ∷ 0 ∷ 0 ∷ 0 ∷ []) ∷
-    shown (noticed (bookSettles 3_600_000 (fresh 3_600_000 (listed 2) ∷ []) 512 512 1 7)) (0 ∷ 0 ∷ 3 ∷ 0 ∷ 0 ∷ 0 ∷ 0 ∷ 0 ∷ 0 ∷ 0 ∷ 0 ∷ []) ∷
+    shown (noticed (bookSettles 3_600_000 (new-stock ∷ []) 512 512 1 7)) (0 ∷ 0 ∷ 3 ∷ 0 ∷ 0 ∷ 0 ∷ 0 ∷ 0 ∷ 0 ∷ 0 ∷ 0 ∷ []) ∷
     shown (noticed (settleAnswer 3_900_001 (trading-with (referring 100_000 970_000 1) [])))
     (0 ∷ 0 ∷ 4 ∷ 1 ∷ 100_000 ∷ 90_000 ∷ 110_000 ∷ 0 ∷ 0 ∷ 0 ∷ 0 ∷ []) ∷
     -- every other number with what the stock shows: 13, and 4 in Waiting with a reference
@@ -287,7 +300,7 @@ edges =
     (0 ∷ 0 ∷ 13 ∷ 1 ∷ 100_000 ∷ 90_000 ∷ 110_000 ∷ 0 ∷ 0 ∷ 0 ∷ 0 ∷ []) ∷
     shown (line 0 0 (tellAnswer (T 400_000 0) (sound 0 400_000 0 0 0 (referring 100_000 0 0) noQuotes [])))
     (0 ∷ 0 ∷ 4 ∷ 0 ∷ 100_000 ∷ 0 ∷ 0 ∷ 0 ∷ 0 ∷ 0 ∷ 0 ∷ []) ∷
-    shown (noticed (settleAnswer 1_000_000 (trading-with (referring 100_000 990_000 1) [])))
+    shown (noticed (settleAnswer 1_000_000 plain))
     (0 ∷ 0 ∷ 14 ∷ 1 ∷ 100_000 ∷ 90_000 ∷ 110_000 ∷ 0 ∷ 0 ∷ 0 ∷ 0 ∷ []) ∷
     shown (noticed (settleAnswer 1_000_000 (trading-with (referring 100_000 970_000 1) [])))
     (1_000_000 ∷ mark-h ∷ 0 ∷ 1 ∷ 100_000 ∷ 90_000 ∷ 110_000 ∷ 0 ∷ 0 ∷ 0 ∷ 0 ∷ []) ∷

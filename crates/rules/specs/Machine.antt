@@ -3,6 +3,7 @@
 -- Assumes nothing.
 use Prim.Native.Nat.{ℕ, _≤_, _<_}
 use mathlib.Core.List.{List, [], _∷_, _++_}
+use mathlib.Core.Logic.{_⊎_}
 use mathlib.Core.Path.{_≡_}
 use lib.Dec.{ltb, eqb}
 use lib.ListN.{length, getD, set}
@@ -109,6 +110,16 @@ module _ (𝓜 : Machine) where
   abbrev pub left : Stock → History → Stock
   left s [] = s
   left s (e ∷ es) = left (becomes s e) es
+
+  -- so of the stock, and after each event of a history
+  abbrev pub Throughout : (Stock → Type 0) → Stock → History → Type 0
+  Throughout P s [] = P s
+  Throughout P s (e ∷ es) = P s × Throughout P (becomes s e) es
+
+  -- an event of the history, dated `t`, began what has lasted to the history's end
+  abbrev pub Since : (Stock → Event Message Notice → Type 0) → (Stock → History → Type 0) → ℕ → Stock → History → Type 0
+  Since Began Lasts t s [] = ⊥
+  Since Began Lasts t s (e ∷ es) = ((dated e ≡ t) × Began s e × Lasts (becomes s e) es) ⊎ Since Began Lasts t (becomes s e) es
 
   -- ---------------------------------------------------------------- a call on one stock
 

@@ -9,7 +9,7 @@ use mathlib.Core.Path.{_≡_}
 use lib.Dec.{ltb}
 use Rattle.forms.specs.Choice.{if_then_else_, anyOf}
 use Rattle.rules.specs.Stock.{Whole, Limit, Paused, Late, stateOf, is}
-use Rattle.rules.specs.Machine.{message, moment, dated, becomes}
+use Rattle.rules.specs.Machine.{message, moment, dated, becomes, Throughout, Since}
 use Rattle.rules.specs.Book.{machine, Story}
 use Rattle.rules.specs.Readings.{EndsLimit}
 
@@ -30,16 +30,9 @@ PauseAt time h (moment n ∷ es) =
     ((n .moment .time ≡ time) × (inPause h ≡ false) × (inPause (becomes machine h (moment n)) ≡ true))
     ⊎ PauseAt time (becomes machine h (moment n)) es
 
--- the stock is in a pause, and stays in it to the end of the story
-abbrev pub PauseLasts : Whole → Story → Type 0
-PauseLasts h [] = inPause h ≡ true
-PauseLasts h (e ∷ es) = (inPause h ≡ true) × PauseLasts (becomes machine h e) es
-
 -- an event of the story, dated `time`, began a pause, and that pause has lasted to the story's end
 abbrev pub PausedSince : ℕ → Whole → Story → Type 0
-PausedSince time h [] = ⊥
-PausedSince time h (e ∷ es) =
-    ((dated machine e ≡ time) × (inPause h ≡ false) × PauseLasts (becomes machine h e) es) ⊎ PausedSince time (becomes machine h e) es
+PausedSince time h es = Since machine (λ h e. inPause h ≡ false) (Throughout machine (λ h. inPause h ≡ true)) time h es
 
 -- the stock is in Limit at the end of the story, and no event of it ended that stay
 abbrev pub Lasts : Whole → Story → Type 0
@@ -48,7 +41,4 @@ Lasts h (e ∷ es) = (stateOf (h .stock) ≡ Limit) × (EndsLimit e h → ⊥) �
 
 -- an event of the story, dated `time`, entered a limit state, and that stay has lasted to the story's end
 abbrev pub LimitSince : ℕ → Whole → Story → Type 0
-LimitSince time h [] = ⊥
-LimitSince time h (e ∷ es) =
-    ((dated machine e ≡ time) × ((stateOf (h .stock) ≡ Limit → ⊥) ⊎ EndsLimit e h) × Lasts (becomes machine h e) es)
-    ⊎ LimitSince time (becomes machine h e) es
+LimitSince time h es = Since machine (λ h e. (stateOf (h .stock) ≡ Limit → ⊥) ⊎ EndsLimit e h) Lasts time h es

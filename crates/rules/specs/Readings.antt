@@ -16,7 +16,7 @@ use Rattle.rules.specs.Quotes.{inForce, bandsIn, bestOf, atLimit, stradd
 use Rattle.rules.specs.Moments.{mark-z, mark-w, mark-x, mark-p, mark-c, mark-v, mark-f, mark-h, Row, dueBy, nextOf}
 use Rattle.rules.specs.Messages.{letter-T, letter-Q, letter-O, letter-P, letter-R, letter-X, letter, timeOf, kind, with-quote}
 use Rattle.rules.specs.Numbers.{rubbish, outOfRange}
-use Rattle.rules.specs.Machine.{Event, message, moment, dated, becomes}
+use Rattle.rules.specs.Machine.{Event, message, moment, dated, becomes, Throughout, Since}
 use Rattle.rules.specs.Book.{machine, Story}
 use Rattle.rules.specs.declared.Stock.{Stock}
 use Rattle.rules.specs.declared.Side.{Side}
@@ -202,16 +202,11 @@ MayStart price h (moment n) =
 
 -- the reference has this price and this start, to the end of the story
 abbrev pub Referred : ℕ → ℕ → Whole → Story → Type 0
-Referred price start h [] = (h .stock .reference .price ≡ price) × (h .stock .reference .start ≡ start)
-Referred price start h (e ∷ es) =
-    (h .stock .reference .price ≡ price) × (h .stock .reference .start ≡ start) × Referred price start (becomes machine h e) es
+Referred price start h es = Throughout machine (λ h. (h .stock .reference .price ≡ price) × (h .stock .reference .start ≡ start)) h es
 
 -- an event of the story, dated `start`, started a reference of that price, which has lasted to the story's end
 abbrev pub StartedBy : ℕ → ℕ → Whole → Story → Type 0
-StartedBy price start h [] = ⊥
-StartedBy price start h (e ∷ es) =
-    ((dated machine e ≡ start) × MayStart price h e × Referred price start (becomes machine h e) es)
-    ⊎ StartedBy price start (becomes machine h e) es
+StartedBy price start h es = Since machine (MayStart price) (Referred price start) start h es
 
 -- ------------------------------------------------------------------ the table of message by state, in words ("Messages")
 
