@@ -3,7 +3,7 @@
 use Prim.Native.Nat.{ℕ, _≤_}
 use mathlib.Core.Bool.{Bool, true, false, not, false≢true}
 use mathlib.Core.List.{List, [], _∷_}
-use mathlib.Core.Path.{_≡_, refl, sym}
+use mathlib.Core.Path.{_≡_, refl, sym, _∙_}
 use borrow.Author.Tests.{lt-ltb, le-ltb, le-leb, lt-leb, eq-eqb, ne-eqb, leb-true, eqb-true, not-false}
 use lib.Dec.{leb, eqb}
 use native.Mathlib.Nat.{min-eq-left, min-eq-right, max-eq-left, max-eq-right, le-of-lt}
@@ -19,6 +19,14 @@ if-true b x y e = rw e
 pub if-false : {A : Type 0} (b : Bool) (x y : A) → b ≡ false → (if b then x else y) ≡ y
 unfolding if_then_else_
 if-false b x y e = rw e
+
+-- the arm that the code went
+module _ {A : Type 0} (b : Bool) (r x y : A) where
+  pub goes : b ≡ true → r ≡ x → r ≡ (if b then x else y)
+  goes e q = q ∙ sym (if-true b x y e)
+
+  pub passes : b ≡ false → r ≡ y → r ≡ (if b then x else y)
+  passes e q = q ∙ sym (if-false b x y e)
 
 -- what holds of each arm where it is chosen holds of the choice
 pub if-arms : {A : Type 0} (P : A → Type 0) (b : Bool) {x y : A} → (b ≡ true → P x) → (b ≡ false → P y) → P (if b then x else y)
@@ -148,6 +156,9 @@ pub ruleset tests = (compared, if-true, if-false, all-yes, all-empty, all-not-he
 
 -- the same where the code branched on what a call answered
 pub ruleset calls = (compared, if-true, if-false, by-true, by-false)
+
+-- the returns of a function that branches and hands on what a call answered
+pub ruleset arms = (goes, passes, compared)
 
 -- the returns of a function that answers a row of tests
 pub ruleset anys = (any-hit, any-last, any-miss, by-true, by-false, compared)

@@ -3,3 +3,4 @@ pub mod Checks
 pub mod Tables
 pub mod Loops
 pub mod Promises
+pub mod Bools

@@ -2,19 +2,13 @@
 -- Assumes nothing.
 use Prim.Native.Nat.{ℕ}
 use mathlib.Core.Bool.{Bool}
-use mathlib.Core.List.{List, [], _∷_, map}
-use mathlib.Core.Path.{_≡_}
-use lib.ListN.{length, getD}
+use mathlib.Core.List.{List, [], map}
+use lib.ListN.{getD}
 use Rattle.forms.specs.Choice.{allOf}
 
 -- the entry in a row and a column, each counted from 0; 0 outside the table
 abbrev pub entry : List (List ℕ) → ℕ → ℕ → ℕ
 entry table row column = getD (getD table row []) column 0
-
--- every row of the table has so many columns
-abbrev pub Columns : ℕ → List (List ℕ) → Type 0
-Columns n [] = Unit {0}
-Columns n (row ∷ rows) = (length row ≡ n) × Columns n rows
 
 -- the test holds of every row
 unfoldable pub every : {A : Type 0} → (A → Bool) → List A → Bool

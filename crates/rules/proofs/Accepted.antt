@@ -5,6 +5,7 @@ use mathlib.Core.Bool.{Bool, true, false}
 use mathlib.Core.Path.{_≡_, refl, sym, _∙_}
 use native.Mathlib.Omega.{arith}
 use borrow.Author.Tests.{ltb-false, leb-false, le-ltb, lt-leb, not-false}
+use lib.ListN.{length}
 use Rattle.forms.specs.Checks.{first, Passed}
 use Rattle.forms.proofs.Checks.{beyond, all-passed}
 use Rattle.forms.proofs.Choice.{eq-not, eq-of-not, any-head, any-not, any-empty, all-not-here, all-not-there}
@@ -13,7 +14,7 @@ use Rattle.rules.specs.Stock.{Whole, stateOf}
 use Rattle.rules.specs.Quotes.{inForce, bandsIn}
 use Rattle.rules.specs.Moments.{dueBy, nextOf}
 use Rattle.rules.specs.Messages.{kind, taken}
-use Rattle.rules.specs.Numbers.{rubbish, notPrimary, outside, ownChecks, checks, tells, settleChecks, settles}
+use Rattle.rules.specs.Numbers.{badStock, rubbish, notPrimary, outside, ownChecks, messageChecks, checks, tells, timeChecks, settleChecks, settles}
 use Rattle.rules.specs.Readings.{inWords, FromPrimary, OwnNeeds, Acceptable}
 use Rattle.rules.specs.Demands.{AcceptedWhere}
 use Rattle.rules.specs.declared.Stock.{Stock}
@@ -34,8 +35,8 @@ kind-below (R time participant price) = omega arith
 kind-below (X time participant price) = omega arith
 
 state-below : (h : Whole) → rubbish h ≡ false → stateOf (h .stock) < 6
-unfolding rubbish
-state-below h e = omega (arith, ltb-false 5 (stateOf (h .stock)) (any-head _ _ e))
+unfolding rubbish badStock
+state-below h e = omega (arith, ltb-false 5 (stateOf (h .stock)) (any-head _ _ (any-head _ _ e)))
 
 by-words : (m : Message) (h : Whole) → rubbish h ≡ false → taken (kind m) (stateOf (h .stock)) ≡ inWords (kind m) (stateOf (h .stock))
 by-words m h e = table-in-words (kind m) (stateOf (h .stock)) (kind-below m) (state-below h e)
@@ -70,7 +71,7 @@ is-inside s price k = go (inForce s) refl
         all-not-there _ _ (all-not-here _ _ (any-not _ _ (le-ltb _ _ (b .0)) (any-not _ _ (le-ltb _ _ (b .1)) any-empty)))
     go false e = all-not-here _ _ e
 
-own-needs : (m : Message) (h : Whole) → first (ownChecks m h) ≡ 0 → OwnNeeds m h
+own-needs : (m : Message) (h : Whole) → first (ownChecks m (length (h .window)) (h .stock)) ≡ 0 → OwnNeeds m h
 unfolding ownChecks
 own-needs (T time price) h e =
     let a = beyond 0 _ 12 _ tt e in
@@ -81,7 +82,7 @@ own-needs (P time participant) h e = not-false _ (beyond 0 _ 9 _ tt e .0)
 own-needs (R time participant price) h e = ltb-false _ _ (beyond 0 _ 10 _ tt e .0)
 own-needs (X time participant price) h e = ltb-false _ _ (beyond 0 _ 10 _ tt e .0)
 
-own-pass : (m : Message) (h : Whole) → OwnNeeds m h → Passed (ownChecks m h)
+own-pass : (m : Message) (h : Whole) → OwnNeeds m h → Passed (ownChecks m (length (h .window)) (h .stock))
 unfolding ownChecks
 own-pass (T time price) h k = is-inside _ _ (k .0) │ lt-leb _ _ (k .1) │ tt
 own-pass (Q time participant bid offer) h k = tt
@@ -106,7 +107,7 @@ is-taken m h e =
     }
 
 takes : (m : Message) (h : Whole) → Acceptable m h → tells m h ≡ 0
-unfolding tells checks
+unfolding tells checks messageChecks
 takes m h t = all-passed (checks m h) (
     t .sound
     │ t .in-range
@@ -117,7 +118,7 @@ takes m h t = all-passed (checks m h) (
     │ own-pass m h (t .own-needs))
 
 settles-due : (time : ℕ) (h : Whole) → (rubbish h ≡ false) × (time ≤ h .stock .end + 300_000) × (dueBy time (nextOf h) ≡ true) → settles time h ≡ 0
-unfolding settles settleChecks
+unfolding settles settleChecks timeChecks
 settles-due time h k = all-passed (settleChecks time h) (k .0 │ le-ltb _ _ (k .1) │ rw (k .2) refl │ tt)
 
 pub accepted-where : AcceptedWhere

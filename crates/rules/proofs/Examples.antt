@@ -11,7 +11,7 @@ use Rattle.rules.specs.Quotes.{inForce, kTime, bandsIn, higher, lesser, 
 use Rattle.rules.specs.States.{look, begin-trading, leave, test, begin-pause, shut}
 use Rattle.rules.specs.Moments.{momentTable, sooner, earliest, next, dueBy, pastAt, first-five, effect, windowAfter, come, fire}
 use Rattle.rules.specs.Messages.{taken, tradeRules, quoteRules, does, after}
-use Rattle.rules.specs.Numbers.{notPrice, badEnd, badSetup, badTimes, orNotSide, badQuotes, badReference, badTrade, see, badTrades, rubbish, outOfRange, notPrimary, outside, ownChecks, checks, tells, settleChecks, settles, answer, afterTelling, afterSettling, notice, tellAnswer, settleAnswer, fresh, badShape, callChecks, orBadSetup, setupChecks, setsUp, setupAnswer}
+use Rattle.rules.specs.Numbers.{notPrice, badEnd, badSetup, badTimes, orNotSide, badQuotes, badReference, badTrade, see, badTrades, badStock, rubbish, outOfRange, notPrimary, outside, ownChecks, messageChecks, checks, tells, timeChecks, settleChecks, settles, answer, afterTelling, afterSettling, notice, tellAnswer, settleAnswer, fresh, badShape, callChecks, orBadSetup, setupChecks, setsUp, setupAnswer}
 use Rattle.rules.specs.Machine.{numberIn, stepIn}
 use Rattle.rules.specs.Book.{bookTells, bookSettles}
 use Rattle.rules.specs.Examples.{right, byHand}
@@ -24,9 +24,9 @@ unfolding if_then_else_ allOf anyOf every percentOf factorOf spreadOf cent lower
 by-hand = refl
 
 pub as-printed : AsPrinted
-unfolding if_then_else_ allOf anyOf first every percentOf factorOf spreadOf cent lowerOf upperOf bandsOf meanOf distance movesOf total oldest figuresOf staying inForce kTime bandsIn higher lesser bestBid bestOffer bidFlag offerFlag bestOf flagged crossed look begin-trading leave test begin-pause shut momentTable sooner earliest next dueBy pastAt first-five effect windowAfter come taken tradeRules quoteRules does after notPrice badEnd badSetup badTimes orNotSide badQuotes badReference badTrade see badTrades rubbish outOfRange notPrimary outside ownChecks checks tells settleChecks settles answer afterTelling afterSettling tellAnswer settleAnswer fresh line callChecks badShape fire notice numberIn stepIn bookTells bookSettles printed sameNumbers sameLines asPrinted theDay limitAgain theLooks offerStraddle theFlags openedByF theTest theTies narrowed aLimit byTheClose noOpening oneMillisecond aLatePause aPause aStraddle days
+unfolding if_then_else_ allOf anyOf first every percentOf factorOf spreadOf cent lowerOf upperOf bandsOf meanOf distance movesOf total oldest figuresOf staying inForce kTime bandsIn higher lesser bestBid bestOffer bidFlag offerFlag bestOf flagged crossed look begin-trading leave test begin-pause shut momentTable sooner earliest next dueBy pastAt first-five effect windowAfter come taken tradeRules quoteRules does after notPrice badEnd badSetup badTimes orNotSide badQuotes badReference badTrade see badTrades badStock rubbish outOfRange notPrimary outside ownChecks messageChecks checks tells timeChecks settleChecks settles answer afterTelling afterSettling tellAnswer settleAnswer fresh line callChecks badShape fire notice numberIn stepIn bookTells bookSettles printed sameNumbers sameLines asPrinted theDay limitAgain theLooks offerStraddle theFlags openedByF theTest theTies narrowed aLimit byTheClose noOpening oneMillisecond aLatePause aPause aStraddle days
 as-printed = refl
 
 pub at-edges : AtEdges
-unfolding if_then_else_ allOf anyOf first every percentOf factorOf spreadOf cent lowerOf upperOf bandsOf meanOf distance movesOf total oldest figuresOf staying inForce kTime bandsIn higher lesser bestBid bestOffer bidFlag offerFlag bestOf flagged crossed look begin-trading leave test begin-pause shut momentTable sooner earliest next dueBy pastAt first-five effect windowAfter come taken tradeRules quoteRules does after notPrice badEnd badSetup badTimes orNotSide badQuotes badReference badTrade see badTrades rubbish outOfRange notPrimary outside ownChecks checks tells settleChecks settles answer afterTelling afterSettling tellAnswer settleAnswer fresh line sameNumbers badShape callChecks orBadSetup setupChecks setsUp setupAnswer fire notice bookTells bookSettles asAnswered edges
+unfolding if_then_else_ allOf anyOf first every percentOf factorOf spreadOf cent lowerOf upperOf bandsOf meanOf distance movesOf total oldest figuresOf staying inForce kTime bandsIn higher lesser bestBid bestOffer bidFlag offerFlag bestOf flagged crossed look begin-trading leave test begin-pause shut momentTable sooner earliest next dueBy pastAt first-five effect windowAfter come taken tradeRules quoteRules does after notPrice badEnd badSetup badTimes orNotSide badQuotes badReference badTrade see badTrades badStock rubbish outOfRange notPrimary outside ownChecks messageChecks checks tells timeChecks settleChecks settles answer afterTelling afterSettling tellAnswer settleAnswer fresh line sameNumbers badShape callChecks orBadSetup setupChecks setsUp setupAnswer fire notice bookTells bookSettles asAnswered edges
 at-edges = refl

@@ -14,7 +14,7 @@ use Rattle.rules.specs.Stock.{Whole, Waiting, stateOf, at-time, hold-end
 use Rattle.rules.specs.States.{begin-pause, shut}
 use Rattle.rules.specs.Moments.{mark-v, mark-f, momentTable, next, effect, come, nextOf, fire}
 use Rattle.rules.specs.Messages.{after}
-use Rattle.rules.specs.Numbers.{badEnd, rubbish, settles, fresh, notice}
+use Rattle.rules.specs.Numbers.{badEnd, badStock, rubbish, settles, fresh, notice}
 use Rattle.rules.specs.Machine.{message, moment, Lawful, left}
 use Rattle.rules.specs.Book.{machine, Story}
 use Rattle.rules.specs.Readings.{markOf, countOf}
@@ -110,8 +110,8 @@ over : (h : Whole) (es : Story) → Lawful machine h es → early (h .stock) ≡
 over h es v e = omega (arith, f-count h es v (omega arith))
 
 end-least : (h : Whole) (t : ℕ) → settles t h ≡ 0 → 3_600_000 ≤ h .stock .end
-unfolding rubbish badEnd
-end-least h t e = ltb-false (h .stock .end) 3_600_000 (any-head _ _ (any-head _ _ (any-tail _ _ (any-tail _ _ (settled t h e .sound)))))
+unfolding rubbish badStock badEnd
+end-least h t e = ltb-false (h .stock .end) 3_600_000 (any-head _ _ (any-head _ _ (any-tail _ _ (any-tail _ _ (any-head _ _ (settled t h e .sound))))))
 
 -- f is not left out
 f-happens : (h : Whole) (es : Story) (time : ℕ) → Lawful machine h es → settles time (left machine h es) ≡ 14 → 300_000 ≤ time

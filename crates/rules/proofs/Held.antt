@@ -15,7 +15,7 @@ use Rattle.rules.specs.Stock.{hold-ended, Trade, Whole, stateOf, clockOf
 use Rattle.rules.specs.States.{begin-pause}
 use Rattle.rules.specs.Moments.{mark-v, momentTable, next, effect, windowAfter, come, nextOf, fire}
 use Rattle.rules.specs.Messages.{kind, timeOf, taken, does, after}
-use Rattle.rules.specs.Numbers.{Seen, badTrade, see, badTrades, rubbish, tells, settles, fresh, notice}
+use Rattle.rules.specs.Numbers.{Seen, badTrade, see, badTrades, badStock, rubbish, tells, settles, fresh, notice}
 use Rattle.rules.specs.Machine.{message, moment, Lawful, left}
 use Rattle.rules.specs.Book.{machine, Story}
 use Rattle.rules.specs.Readings.{closes, joins, joined, recent}
@@ -53,8 +53,7 @@ seen-in-order clock s (t ∷ ts) e =
 
 window-in-order : (h : Whole) → rubbish h ≡ false → InOrder 0 (clockOf (h .stock)) (h .window)
 unfolding rubbish badTrades
-window-in-order h e = seen-in-order _ _ (h .window) (any-head _ _ (any-tail _ _ (any-tail _ _ (any-tail _ _ (any-tail _ _ (any-tail _ _
-    (any-tail _ _ (any-tail _ _ (any-tail _ _ e))))))))) .1
+window-in-order h e = seen-in-order _ _ (h .window) (any-head _ _ (any-tail _ _ (any-tail _ _ e))) .1
 
 -- ------------------------------------------------------------------ recent trades
 
@@ -102,7 +101,7 @@ abbrev Low : Stock → Type 0
 Low s = stateOf s ≤ 4
 
 told-low : (m : Message) (h : Whole) → tells m h ≡ 0 → Low (h .stock)
-unfolding rubbish taken if_then_else_
+unfolding rubbish badStock taken if_then_else_
 told-low m h e = go (eqb (stateOf (h .stock)) 5) refl
   where
     shut-takes : (m : Message) → taken (kind m) 5 ≡ 0 → ⊥
@@ -115,7 +114,7 @@ told-low m h e = go (eqb (stateOf (h .stock)) 5) refl
 
     go : (b : Bool) → eqb (stateOf (h .stock)) 5 ≡ b → Low (h .stock)
     go true p = absurd (shut-takes m (rw (eqb-true (stateOf (h .stock)) 5 p) at (told m h e .state-takes)))
-    go false p = omega (arith, ltb-false 5 (stateOf (h .stock)) (any-head _ _ (told m h e .sound)), eqb-false (stateOf (h .stock)) 5 p)
+    go false p = omega (arith, ltb-false 5 (stateOf (h .stock)) (any-head _ _ (any-head _ _ (told m h e .sound))), eqb-false (stateOf (h .stock)) 5 p)
 
 between : (a n b : ℕ) (bs : List Bool) → allOf (leb a n ∷ leb n b ∷ bs) ≡ true → n ≤ b
 between a n b bs e = all-leb n b bs (all-tail _ _ e)

@@ -48,7 +48,7 @@ not-past t m e is = go (ltb (m .time) t) refl
 pub next-not-past : (h : Whole) → rubbish h ≡ false → IsMoment (nextOf h) → clockOf (h .stock) ≤ nextOf h .time
 unfolding rubbish
 next-not-past h r is =
-    not-past _ _ (any-head _ _ (any-tail _ _ (any-tail _ _ (any-tail _ _ (any-tail _ _ (any-tail _ _ (any-tail _ _ (any-tail _ _ (any-tail _ _ (any-tail _ _ r)))))))))) is
+    not-past _ _ (any-head _ _ (any-tail _ _ (any-tail _ _ (any-tail _ _ r)))) is
 
 -- ------------------------------------------------------------------ the laws
 

@@ -4,12 +4,13 @@ use Prim.Native.Nat.{ℕ, _+_, _≤_}
 use mathlib.Core.Bool.{true, false}
 use mathlib.Core.Path.{_≡_}
 use borrow.Author.Tests.{ltb-false, not-true, not-false}
+use lib.ListN.{length}
 use Rattle.forms.specs.Checks.{first}
-use Rattle.forms.proofs.Checks.{beyond, own-passed, applied, passed}
+use Rattle.forms.proofs.Checks.{beyond, own-passed, applied}
 use Rattle.rules.specs.Stock.{Whole, stateOf, clockOf}
 use Rattle.rules.specs.Moments.{dueBy, nextOf}
 use Rattle.rules.specs.Messages.{kind, timeOf, taken}
-use Rattle.rules.specs.Numbers.{rubbish, outOfRange, notPrimary, ownChecks, checks, tells, settleChecks, settles}
+use Rattle.rules.specs.Numbers.{rubbish, outOfRange, notPrimary, ownChecks, messageChecks, checks, tells, timeChecks, settleChecks, settles}
 use Rattle.rules.specs.declared.Message.{Message}
 
 -- a message that is accepted
@@ -20,10 +21,10 @@ pub record Told (m : Message) (h : Whole) : Type 0 where
   pub none-due : dueBy (timeOf m) (nextOf h) ≡ false
   pub from-primary : notPrimary (h .stock .setup .primary) m ≡ false
   pub state-takes : taken (kind m) (stateOf (h .stock)) ≡ 0
-  pub own-passes : first (ownChecks m h) ≡ 0
+  pub own-passes : first (ownChecks m (length (h .window)) (h .stock)) ≡ 0
 
 pub told : (m : Message) (h : Whole) → tells m h ≡ 0 → Told m h
-unfolding tells checks
+unfolding tells checks messageChecks
 told m h e =
     let a = beyond 0 _ 1 _ tt e in
     let b = beyond 0 _ 4 _ tt (a .1) in
@@ -48,7 +49,7 @@ pub record Settled (t : ℕ) (h : Whole) : Type 0 where
   pub due : dueBy t (nextOf h) ≡ true
 
 pub settled : (t : ℕ) (h : Whole) → settles t h ≡ 0 → Settled t h
-unfolding settles settleChecks
+unfolding settles settleChecks timeChecks
 settled t h e =
     let a = beyond 0 _ 1 _ tt e in
     let b = beyond 0 _ 4 _ tt (a .1) in
@@ -62,7 +63,7 @@ pub record Idle (t : ℕ) (h : Whole) : Type 0 where
   pub none-due : dueBy t (nextOf h) ≡ false
 
 pub idle : (t : ℕ) (h : Whole) → settles t h ≡ 14 → Idle t h
-unfolding settles settleChecks
+unfolding settles settleChecks timeChecks
 idle t h e =
     let a = beyond 14 _ 1 _ tt e in
     let b = beyond 14 _ 4 _ tt (a .1) in

@@ -19,7 +19,7 @@ use Rattle.rules.specs.Stock.{Trade, Whole, Trading, Limit, Paused, Late
 use Rattle.rules.specs.States.{look, begin-trading, leave, test, begin-pause, shut}
 use Rattle.rules.specs.Moments.{first-five, effect, windowAfter, come, nextOf, fire}
 use Rattle.rules.specs.Messages.{timeOf, tradeRules, quoteRules, with-quote, does, after}
-use Rattle.rules.specs.Numbers.{notPrice, badEnd, badSetup, badTimes, orNotSide, badQuotes, badReference, badTrade, see, badTrades, rubbish, outOfRange, ownChecks, tells, settleChecks, settles, fresh}
+use Rattle.rules.specs.Numbers.{notPrice, badEnd, badSetup, badTimes, orNotSide, badQuotes, badReference, badTrade, see, badTrades, badStock, rubbish, outOfRange, ownChecks, tells, timeChecks, settleChecks, settles, fresh}
 use Rattle.rules.specs.Machine.{Every, message, moment, Lawful, left}
 use Rattle.rules.specs.Book.{machine, Story}
 use Rattle.rules.specs.Demands.{leaves, NeverRubbish, Settling}
@@ -224,9 +224,9 @@ is-price price e =
     let z = eqb-false price 0 (any-head _ _ e) in
     (omega arith, ltb-false 999_999_999 price (any-head _ _ (any-tail _ _ e)))
 
-fits : (m : Message) (h : Whole) → outOfRange (h .stock .end) m ≡ false → first (ownChecks m h) ≡ 0 → Fits m (h .window)
+fits : (m : Message) (h : Whole) → outOfRange (h .stock .end) m ≡ false → first (ownChecks m (length (h .window)) (h .stock)) ≡ 0 → Fits m (h .window)
 unfolding outOfRange ownChecks
-fits (T time price) h r o = (is-price price (any-head _ _ r), leb-false 512 (length (h .window)) (passed (ownChecks (T time price) h) tt o .1 .0))
+fits (T time price) h r o = (is-price price (any-head _ _ r), leb-false 512 (length (h .window)) (passed (ownChecks (T time price) (length (h .window)) (h .stock)) tt o .1 .0))
 fits (Q time participant bid offer) h r o =
     (ltb-false _ bid (any-head _ _ (any-tail _ _ r)), ltb-false _ offer (any-head _ _ (any-tail _ _ (any-tail _ _ r))))
 fits (O time participant price) h r o = is-price price (any-head _ _ (any-tail _ _ r))
@@ -344,7 +344,7 @@ reference-clean s i = any-not _ _ (le-ltb _ _ (i .ranges .price-by)) (any-not _ 
     omega (arith, i .priced from to))) any-empty)
 
 pub clean : (h : Whole) → Sane h → Timely h → rubbish h ≡ false
-unfolding rubbish badTrades
+unfolding rubbish badStock badTrades
 clean h i j =
     let s = h .stock in
     let state = le-ltb 5 (stateOf s) (i .stock .ranges .state-by) in
@@ -352,9 +352,9 @@ clean h i j =
     let late : s .end - 600_000 ≤ s .course .pause = leb-true _ _ (all-head _ _ (all-tail _ _ a)) in
     omega (arith, j .p-by-end (eqb-true _ _ (all-head _ _ a)))) in
     let count = le-ltb 512 (length (h .window)) (i .window .count) in
-    any-not _ _ state (any-not _ _ (i .setup-ok) (any-not _ _ (i .end-ok) (any-not _ _ (times-clean h i j) (any-not _ _ (quotes-clean s (i .stock))
-    (any-not _ _ (reference-clean s (i .stock)) (any-not _ _ pause (any-not _ _ count
-    (any-not _ _ (trades-clean _ 0 (h .window) (i .window .in-order)) (any-not _ _ (none-past h j) any-empty)))))))))
+    let stock = any-not _ _ state (any-not _ _ (i .setup-ok) (any-not _ _ (i .end-ok) (any-not _ _ (times-clean h i j)
+    (any-not _ _ (quotes-clean s (i .stock)) (any-not _ _ (reference-clean s (i .stock)) (any-not _ _ pause any-empty)))))) in
+    any-not _ _ stock (any-not _ _ count (any-not _ _ (trades-clean _ 0 (h .window) (i .window .in-order)) (any-not _ _ (none-past h j) any-empty)))
 
 -- ------------------------------------------------------------------ the demands
 
@@ -365,7 +365,7 @@ never-rubbish end u es a =
 
 -- what is not rubbish is settled to a time in range with 0 or 14
 settles-to : (time : ℕ) (h : Whole) → rubbish h ≡ false → time ≤ h .stock .end + 300_000 → (settles time h ≡ 0) ⊎ (settles time h ≡ 14)
-unfolding settles settleChecks first
+unfolding settles settleChecks timeChecks first
 settles-to time h r l =
     let Done : ℕ → Type 0 = λ n. (n ≡ 0) ⊎ (n ≡ 14) in
     if-arms Done _ (λ e. absurd (true≢false (sym e ∙ r))) (λ _.

@@ -16,6 +16,7 @@ use Rattle.rules.specs.Messages.{kind, timeOf, taken, after}
 use Rattle.rules.specs.declared.Setup.{Setup}
 use Rattle.rules.specs.declared.Quotes.{Quotes}
 use Rattle.rules.specs.declared.Stock.{Stock}
+use Rattle.rules.specs.declared.Moment.{Moment}
 use Rattle.rules.specs.declared.Best.{Best}
 use Rattle.rules.specs.declared.Answer.{Answer}
 use Rattle.rules.specs.declared.Notice.{Notice}
@@ -99,9 +100,9 @@ see clock seen t = record { bad = if seen .bad then true else badTrade clock (se
 unfoldable pub badTrades : ℕ → List Trade → Bool
 badTrades clock w = foldl (see clock) (record { bad = false; last = 0 }) w .bad
 
--- a state over 5; one of these; Paused with a pause start of E - 600,000 or later; over 512 trades; a moment still to come and past
-unfoldable pub rubbish : Whole → Bool
-rubbish h = let s = h .stock in anyOf (
+-- of a stock whatever its window: a state over 5; one of these; Paused with a pause start of E - 600,000 or later
+unfoldable pub badStock : Stock → Bool
+badStock s = anyOf (
     ltb 5 (stateOf s) ∷
     badSetup (s .setup) ∷
     badEnd (s .end) ∷
@@ -109,6 +110,12 @@ rubbish h = let s = h .stock in anyOf (
     badQuotes (s .quotes) ∷
     badReference s ∷
     allOf (is Paused s ∷ leb (s .end - 600_000) (s .course .pause) ∷ []) ∷
+    [])
+
+-- such a stock; over 512 trades; a bad one among them; a moment still to come and past
+unfoldable pub rubbish : Whole → Bool
+rubbish h = let s = h .stock in anyOf (
+    badStock s ∷
     ltb 512 (length (h .window)) ∷
     badTrades (clockOf s) (h .window) ∷
     pastAt (clockOf s) (nextOf h) ∷
@@ -156,28 +163,31 @@ notPrimary primary (X time participant price) = not (eqb participant primary)
 unfoldable pub outside : Stock → ℕ → Bool
 outside s price = allOf (inForce s ∷ anyOf (ltb price (bandsIn s .lower) ∷ ltb (bandsIn s .upper) price ∷ []) ∷ [])
 
--- the last checks, of each message its own
-unfoldable pub ownChecks : Message → Whole → List Check
-ownChecks (T time price) h = 12 when outside (h .stock) price ∷ 13 when leb 512 (length (h .window)) ∷ []
-ownChecks (Q time participant bid offer) h = []
-ownChecks (O time participant price) h = 9 when leb 300_000 time ∷ []
-ownChecks (P time participant) h = 9 when not (straddle (h .stock)) ∷ []
-ownChecks (R time participant price) h = 10 when ltb time (h .stock .course .pause + 300_000) ∷ []
-ownChecks (X time participant price) h = 10 when ltb time (h .stock .end) ∷ []
+-- the last checks, of each message its own; of the window they ask how many trades it holds
+unfoldable pub ownChecks : Message → ℕ → Stock → List Check
+ownChecks (T time price) held s = 12 when outside s price ∷ 13 when leb 512 held ∷ []
+ownChecks (Q time participant bid offer) held s = []
+ownChecks (O time participant price) held s = 9 when leb 300_000 time ∷ []
+ownChecks (P time participant) held s = 9 when not (straddle s) ∷ []
+ownChecks (R time participant price) held s = 10 when ltb time (s .course .pause + 300_000) ∷ []
+ownChecks (X time participant price) held s = 10 when ltb time (s .end) ∷ []
 
 -- 7, 9 and 11: the table's number, where it is not 0
 abbrev pub tableCheck : ℕ → List Check → List Check
 tableCheck number checks = number when not (eqb number 0) ∷ checks
 
--- its checks in their order
-unfoldable pub checks : Message → Whole → List Check
-checks m h = let s = h .stock in
-    1 when rubbish h ∷
+-- the checks of a message to a stock that is no rubbish, by its trades' count and its earliest moment
+unfoldable pub messageChecks : Message → ℕ → Moment → Stock → List Check
+messageChecks m held earliest s =
     4 when outOfRange (s .end) m ∷
     5 when ltb (timeOf m) (clockOf s) ∷
-    6 when dueBy (timeOf m) (nextOf h) ∷
+    6 when dueBy (timeOf m) earliest ∷
     8 when notPrimary (s .setup .primary) m ∷
-    tableCheck (taken (kind m) (stateOf s)) (ownChecks m h)
+    tableCheck (taken (kind m) (stateOf s)) (ownChecks m held s)
+
+-- all of them in their order
+unfoldable pub checks : Message → Whole → List Check
+checks m h = 1 when rubbish h ∷ messageChecks m (length (h .window)) (nextOf h) (h .stock)
 
 -- the number that a message is answered with
 unfoldable pub tells : Message → Whole → ℕ
@@ -185,13 +195,16 @@ tells m h = first (checks m h)
 
 -- ------------------------------------------------------------------ "Numbers given back": the checks of settling
 
--- settling does the earliest moment not after the time, or answers 14
-unfoldable pub settleChecks : ℕ → Whole → List Check
-settleChecks time h = let s = h .stock in
-    1 when rubbish h ∷
+-- settling a stock that is no rubbish does its earliest moment if that is not after the time, or answers 14
+unfoldable pub timeChecks : ℕ → Moment → Stock → List Check
+timeChecks time earliest s =
     4 when notTime (s .end) time ∷
-    14 when not (dueBy time (nextOf h)) ∷
+    14 when not (dueBy time earliest) ∷
     []
+
+-- all of them in their order
+unfoldable pub settleChecks : ℕ → Whole → List Check
+settleChecks time h = 1 when rubbish h ∷ timeChecks time (nextOf h) (h .stock)
 
 -- the number that settling to a time is answered with
 unfoldable pub settles : ℕ → Whole → ℕ

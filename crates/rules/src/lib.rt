@@ -3,6 +3,41 @@
 // not 0), so that any bytes are a value.
 use band::Limits;
 
+// The states.
+pub const WAITING: u32 = 0;
+
+pub const TRADING: u32 = 1;
+
+pub const LIMIT: u32 = 2;
+
+pub const PAUSED: u32 = 3;
+
+pub const LATE: u32 = 4;
+
+pub const CLOSED: u32 = 5;
+
+// The marks of the moments, each by the code of its letter.
+pub const MARK_Z: u32 = 122;
+
+pub const MARK_W: u32 = 119;
+
+pub const MARK_X: u32 = 120;
+
+pub const MARK_P: u32 = 112;
+
+pub const MARK_C: u32 = 99;
+
+pub const MARK_V: u32 = 118;
+
+pub const MARK_F: u32 = 102;
+
+pub const MARK_H: u32 = 104;
+
+// A price is at most this, and a participant at most that.
+pub const HIGHEST_PRICE: u32 = 999_999_999;
+
+pub const LAST_PARTICIPANT: u32 = 15;
+
 #[repr(C)]
 pub struct Setup {
     pub tier: u32,

@@ -1,0 +1,95 @@
+// The judgement of a stock and of a call: the next moment, what is rubbish, and the ordered refusals. No
+// public function has a `requires`: each gives for every input what the rules say, and changes nothing.
+ghost use mathlib.Core.Path.{_≡_};
+ghost use mathlib.Core.List.{[], _∷_};
+ghost use Rattle.forms.specs.Choice.{anyOf};
+ghost use Rattle.forms.specs.Checks.{first};
+ghost use Rattle.rules.specs.Stock.{clockOf};
+ghost use Rattle.rules.specs.Messages.{timeOf};
+ghost use Rattle.rules.specs.Moments.{next, pastAt};
+ghost use Rattle.rules.specs.Numbers.{badStock, messageChecks, timeChecks};
+use rules::Figures;
+use rules::LATE;
+use rules::LIMIT;
+use rules::MARK_W;
+use rules::MARK_Z;
+use rules::Message;
+use rules::Moment;
+use rules::Stock;
+
+mod message;
+mod moment;
+mod range;
+mod table;
+
+// The message's time.
+pub fn time_of(m: Message) -> u32
+    ensures { λ r. ⌜ r ≡ timeOf m ⌝ }
+{
+    match m {
+        Message::Trade { time, .. } => time,
+        Message::Quote { time, .. } => time,
+        Message::Opening { time, .. } => time,
+        Message::Pause { time, .. } => time,
+        Message::Reopening { time, .. } => time,
+        Message::Closing { time, .. } => time,
+    }
+}
+
+// The earliest moment still to come, with the window's figures; mark 0 where there is none.
+pub fn next_moment(f: Figures, s: Stock) -> Moment
+    ensures { λ r. ⌜ r ≡ next f s ⌝ }
+{
+    let state = s.course.state;
+    let clock = s.course.clock as u64;
+    let end = s.end as u64;
+    let edge = moment::minus(end, 1_500_000);
+    let x = moment::from_x(f, s);
+    let late = moment::sooner(MARK_W, edge, (state <= LATE) & (clock < edge), x);
+    let early = moment::sooner(MARK_W, 900_000, (state <= LATE) & (clock < 900_000), late);
+    moment::sooner(MARK_Z, end, state <= LIMIT, early)
+}
+
+// Whether a stock is rubbish, its trades left aside: `earliest` is its next moment.
+pub fn is_rubbish(earliest: Moment, s: Stock) -> bool
+    ensures { λ r. ⌜ r ≡ anyOf (badStock s ∷ pastAt (clockOf s) earliest ∷ []) ⌝ }
+{
+    range::bad_stock(s) | moment::is_past(s.course.clock, earliest)
+}
+
+// The number that refuses a message to a stock that is no rubbish, 0 where it is accepted.
+pub fn message_refusal(m: Message, held: u32, earliest: Moment, s: Stock) -> u32
+    ensures { λ r. ⌜ r ≡ first (messageChecks m held earliest s) ⌝ }
+{
+    let time = time_of(m);
+    if message::out_of_range(s.end, m) {
+        return 4;
+    }
+    if time < s.course.clock {
+        return 5;
+    }
+    if moment::is_due(time, earliest) {
+        return 6;
+    }
+    if message::not_primary(s.setup.primary, m) {
+        return 8;
+    }
+    let number = table::taken(message::kind_of(m), s.course.state);
+    if number != 0 {
+        return number;
+    }
+    message::own_refusal(m, held, s)
+}
+
+// The number that refuses to settle a stock that is no rubbish to a time, 0 where its next moment is due.
+pub fn settle_refusal(time: u32, earliest: Moment, s: Stock) -> u32
+    ensures { λ r. ⌜ r ≡ first (timeChecks time earliest s) ⌝ }
+{
+    if range::not_time(s.end, time) {
+        return 4;
+    }
+    if moment::is_due(time, earliest) {
+        return 0;
+    }
+    14
+}

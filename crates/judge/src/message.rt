@@ -1,0 +1,134 @@
+// What is asked of a message, by its letter.
+ghost use Prim.Native.Nat.{ℕ, _<_};
+ghost use mathlib.Core.List.{[], _∷_};
+ghost use mathlib.Core.Path.{_≡_};
+ghost use Rattle.forms.specs.Choice.{anyOf};
+ghost use Rattle.forms.specs.Checks.{first};
+ghost use Rattle.forms.specs.Checks.Check.{_when_};
+ghost use Rattle.rules.specs.Messages.{kind};
+ghost use Rattle.rules.specs.Quotes.{straddle};
+ghost use Rattle.rules.specs.Numbers.{notParticipant, notPrice, notTime, outOfRange, notPrimary, ownChecks};
+ghost use Rattle.rules.specs.declared.Message.the-variants.{Trade};
+use crate::range;
+use rules::HIGHEST_PRICE;
+use rules::LAST_PARTICIPANT;
+use rules::Message;
+use rules::Stock;
+
+// The message's row of the table.
+pub fn kind_of(m: Message) -> usize
+    ensures { λ r. ⌜ (r ≡ kind m) × (r < 6) ⌝ }
+{
+    match m {
+        Message::Trade { .. } => 0,
+        Message::Quote { .. } => 1,
+        Message::Opening { .. } => 2,
+        Message::Pause { .. } => 3,
+        Message::Reopening { .. } => 4,
+        Message::Closing { .. } => 5,
+    }
+}
+
+// Of O, R and X: the participant, the price or the time is out of range.
+fn any_out_of_range(end: u32, time: u32, participant: u32, price: u32) -> bool
+    ensures { λ r. ⌜ r ≡ anyOf (notParticipant participant ∷ notPrice price ∷ notTime end time ∷ []) ⌝ }
+{
+    (LAST_PARTICIPANT < participant) | range::not_price(price) | range::not_time(end, time)
+}
+
+// Whether a price, the participant or the time is out of range.
+pub fn out_of_range(end: u32, m: Message) -> bool
+    ensures { λ r. ⌜ r ≡ outOfRange end m ⌝ }
+{
+    match m {
+        Message::Trade { time, price } => range::not_price(price) | range::not_time(end, time),
+        Message::Quote {
+            time,
+            participant,
+            bid,
+            offer,
+        } => (LAST_PARTICIPANT < participant)
+            | (HIGHEST_PRICE < bid)
+            | (HIGHEST_PRICE < offer)
+            | range::not_time(end, time),
+        Message::Opening {
+            time,
+            participant,
+            price,
+        } => any_out_of_range(end, time, participant, price),
+        Message::Pause { time, participant } => (LAST_PARTICIPANT < participant)
+            | range::not_time(end, time),
+        Message::Reopening {
+            time,
+            participant,
+            price,
+        } => any_out_of_range(end, time, participant, price),
+        Message::Closing {
+            time,
+            participant,
+            price,
+        } => any_out_of_range(end, time, participant, price),
+    }
+}
+
+// Whether it must come from the primary and does not.
+pub fn not_primary(primary: u32, m: Message) -> bool
+    ensures { λ r. ⌜ r ≡ notPrimary primary m ⌝ }
+{
+    match m {
+        Message::Trade { .. } => false,
+        Message::Quote { .. } => false,
+        Message::Opening { participant, .. } => participant != primary,
+        Message::Pause { participant, .. } => participant != primary,
+        Message::Reopening { participant, .. } => participant != primary,
+        Message::Closing { participant, .. } => participant != primary,
+    }
+}
+
+// A last check: its number where it applies.
+fn last_check(number: u32, applies: bool) -> u32
+    ensures { λ r. ⌜ r ≡ first (number when applies ∷ []) ⌝ }
+{
+    if applies {
+        return number;
+    }
+    0
+}
+
+// Of T: 12 outside bands in force, 13 with 512 trades held.
+fn trade_refusal(price: u32, held: u32, s: Stock) -> u32
+    ensures { λ r. ⌜ ((time : ℕ) → r ≡ first (ownChecks (Trade time price) held s)) ⌝ }
+{
+    let outside = quotes::is_outside(s, price);
+    if outside {
+        return 12;
+    }
+    if 512 <= held {
+        return 13;
+    }
+    0
+}
+
+// Whether a side has flag 2, which P needs.
+fn is_straddle(s: Stock) -> bool
+    ensures { λ r. ⌜ r ≡ straddle s ⌝ }
+{
+    let best = quotes::best_of(s);
+    (best.bid.flag == 2) | (best.offer.flag == 2)
+}
+
+// The number of the message's own checks, 0 where none applies.
+pub fn own_refusal(m: Message, held: u32, s: Stock) -> u32
+    ensures { λ r. ⌜ r ≡ first (ownChecks m held s) ⌝ }
+{
+    let pause = s.course.pause as u64;
+    let end = s.end;
+    match m {
+        Message::Trade { price, .. } => trade_refusal(price, held, s),
+        Message::Quote { .. } => 0,
+        Message::Opening { time, .. } => last_check(9, 300_000 <= time),
+        Message::Pause { .. } => last_check(9, !is_straddle(s)),
+        Message::Reopening { time, .. } => last_check(10, (time as u64) < pause + 300_000),
+        Message::Closing { time, .. } => last_check(10, time < end),
+    }
+}

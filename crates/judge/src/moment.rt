@@ -1,0 +1,89 @@
+// The table of moments from its last row up to x, and what a time makes of a moment.
+ghost use Prim.Native.Nat.{_-_};
+ghost use mathlib.Core.Path.{_≡_};
+ghost use lib.ListN.{drop};
+ghost use Rattle.rules.specs.Moments as moments;
+ghost use Rattle.rules.specs.Moments.{_at_while_, momentTable, earliest, dueBy, pastAt};
+use rules::Figures;
+use rules::LATE;
+use rules::LIMIT;
+use rules::MARK_C;
+use rules::MARK_F;
+use rules::MARK_H;
+use rules::MARK_P;
+use rules::MARK_V;
+use rules::MARK_X;
+use rules::Moment;
+use rules::PAUSED;
+use rules::Stock;
+use rules::TRADING;
+use rules::WAITING;
+
+// The difference, at least 0.
+pub fn minus(x: u64, y: u64) -> u64
+    ensures { λ r. ⌜ r ≡ x - y ⌝ }
+{
+    if x < y {
+        return 0;
+    }
+    x - y
+}
+
+// A row before what the rows after it give.
+pub fn sooner(mark: u32, time: u64, comes: bool, after: Moment) -> Moment
+    ensures { λ r. ⌜ r ≡ moments.sooner (mark at time while comes) after ⌝ }
+{
+    if comes & ((after.mark == 0) | (time <= after.time)) {
+        return Moment { mark, time };
+    }
+    after
+}
+
+// The earliest of v, f and h.
+fn from_v(f: Figures, s: Stock) -> Moment
+    ensures { λ r. ⌜ r ≡ earliest (drop 6 (momentTable f s)) ⌝ }
+{
+    let state = s.course.state;
+    let early = s.course.early;
+    let start = s.reference.start as u64;
+    let hold = s.reference.hold;
+    let oldest = f.oldest as u64;
+    let count = f.count;
+    let none = Moment { mark: 0, time: 0 };
+    let h = sooner(
+        MARK_H,
+        start + 30_000,
+        (TRADING <= state) & (state <= LATE) & (hold != 0),
+        none,
+    );
+    let f = sooner(MARK_F, 300_000, (state == WAITING) & (early != 0), h);
+    sooner(MARK_V, oldest + 300_000, (state <= LATE) & (count != 0), f)
+}
+
+// The earliest of x, p and c and of those after them.
+pub fn from_x(f: Figures, s: Stock) -> Moment
+    ensures { λ r. ⌜ r ≡ earliest (drop 3 (momentTable f s)) ⌝ }
+{
+    let state = s.course.state;
+    let entry = s.course.entry as u64;
+    let pause = s.course.pause as u64;
+    let end = s.end as u64;
+    let v = from_v(f, s);
+    let c = sooner(MARK_C, end + 300_000, state == LATE, v);
+    let p = sooner(MARK_P, pause + 600_000, state == PAUSED, c);
+    sooner(MARK_X, entry + 15_000, state == LIMIT, p)
+}
+
+// Whether there is a moment that is not after the time.
+pub fn is_due(time: u32, m: Moment) -> bool
+    ensures { λ r. ⌜ r ≡ dueBy time m ⌝ }
+{
+    (m.mark != 0) & (m.time <= (time as u64))
+}
+
+// Whether there is a moment before the time.
+pub fn is_past(time: u32, m: Moment) -> bool
+    ensures { λ r. ⌜ r ≡ pastAt time m ⌝ }
+{
+    (m.mark != 0) & (m.time < (time as u64))
+}

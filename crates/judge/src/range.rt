@@ -1,0 +1,115 @@
+// What is out of range, and of a stock, its window left aside, what is rubbish.
+ghost use mathlib.Core.Path.{_≡_};
+ghost use mathlib.Core.List.{foldl};
+ghost use Rattle.rules.specs.Numbers.{notPrice, notTime, badEnd, badSetup, badTimes, orNotSide, badQuotes, badReference, badStock};
+use crate::moment;
+use rules::CLOSED;
+use rules::HIGHEST_PRICE;
+use rules::LAST_PARTICIPANT;
+use rules::LATE;
+use rules::PAUSED;
+use rules::Quotes;
+use rules::Setup;
+use rules::Stock;
+use rules::TRADING;
+
+// Whether a number is no price.
+pub fn not_price(price: u32) -> bool
+    ensures { λ r. ⌜ r ≡ notPrice price ⌝ }
+{
+    (price == 0) | (HIGHEST_PRICE < price)
+}
+
+// Whether a time is after the last, `end` + 300,000.
+pub fn not_time(end: u32, time: u32) -> bool
+    ensures { λ r. ⌜ r ≡ notTime end time ⌝ }
+{
+    (end as u64) + 300_000 < (time as u64)
+}
+
+// Whether a session's end is out of range.
+fn bad_end(end: u32) -> bool
+    ensures { λ r. ⌜ r ≡ badEnd end ⌝ }
+{
+    (end < 3_600_000) | (23_400_000 < end)
+}
+
+// Whether a number of the setup is out of range.
+fn bad_setup(u: Setup) -> bool
+    ensures { λ r. ⌜ r ≡ badSetup u ⌝ }
+{
+    let tier = u.tier;
+    let leverage = u.leverage;
+    let primary = u.primary;
+    let close = not_price(u.close);
+    (tier == 0)
+        | (2 < tier)
+        | (leverage == 0)
+        | (3 < leverage)
+        | ((tier == 1) & (1 < leverage))
+        | (LAST_PARTICIPANT < primary)
+        | close
+}
+
+// Whether a kept time is out of range, a stale one too.
+fn bad_times(s: Stock) -> bool
+    ensures { λ r. ⌜ r ≡ badTimes s ⌝ }
+{
+    let last = (s.end as u64) + 300_000;
+    let clock = s.course.clock as u64;
+    let start = s.reference.start as u64;
+    let entry = s.course.entry as u64;
+    let pause = s.course.pause as u64;
+    (last < clock) | (last < start) | (last < entry) | (last < pause)
+}
+
+// Whether one was bad before, or one of the sides is out of range.
+fn or_not_sides(bad: bool, sides: [u32; 16]) -> bool
+    ensures { λ r. ⌜ r ≡ foldl orNotSide bad sides ⌝ }
+{
+    let mut b = bad;
+    for i in 0..16 {
+        b = b | (HIGHEST_PRICE < sides[i]);
+    }
+    b
+}
+
+// Whether a bid or an offer is out of range.
+fn bad_quotes(q: Quotes) -> bool
+    ensures { λ r. ⌜ r ≡ badQuotes q ⌝ }
+{
+    let bids = q.bids;
+    let offers = q.offers;
+    let bad = or_not_sides(false, bids);
+    or_not_sides(bad, offers)
+}
+
+// Whether the reference is over the price range, or missing where there must be one.
+fn bad_reference(s: Stock) -> bool
+    ensures { λ r. ⌜ r ≡ badReference s ⌝ }
+{
+    let state = s.course.state;
+    let price = s.reference.price;
+    (HIGHEST_PRICE < price) | ((price == 0) & (TRADING <= state) & (state <= LATE))
+}
+
+// Whether one of these is bad, or the state, or a pause that began too late for its state.
+pub fn bad_stock(s: Stock) -> bool
+    ensures { λ r. ⌜ r ≡ badStock s ⌝ }
+{
+    let state = s.course.state;
+    let pause = s.course.pause as u64;
+    let setup = bad_setup(s.setup);
+    let end = bad_end(s.end);
+    let times = bad_times(s);
+    let quotes = bad_quotes(s.quotes);
+    let reference = bad_reference(s);
+    let edge = moment::minus(s.end as u64, 600_000);
+    (CLOSED < state)
+        | setup
+        | end
+        | times
+        | quotes
+        | reference
+        | ((state == PAUSED) & (edge <= pause))
+}

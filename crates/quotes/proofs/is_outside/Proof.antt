@@ -1,0 +1,20 @@
+use borrow.Author.Needs.{needs}
+use Prim.Native.Nat.{ℕ}
+use mathlib.Core.Bool.{Bool, _&&_, _||_}
+use mathlib.Core.Path.{_≡_}
+use lib.Dec.{ltb}
+use Rattle.band.specs.declared.Limits.{Limits}
+use Rattle.rules.specs.Quotes.{inForce, bandsIn}
+use Rattle.rules.specs.Numbers.{outside}
+use Rattle.rules.specs.declared.Stock.{Stock}
+use Rattle.forms.proofs.Bools.{and-all, or-any}
+use Rattle.quotes.proofs.is_outside.Statement.{statement}
+use Rattle.quotes.proofs.is_outside.Tie as tie
+
+beyond : (s : Stock) (price : ℕ) (on : Bool) (bands : Limits) → on ≡ inForce s → bands ≡ bandsIn s
+    → (on && (ltb price (bands .lower) || ltb (bands .upper) price)) ≡ outside s price
+unfolding outside
+beyond s price on bands e f = simp (e, f, and-all, or-any)
+
+pub is-outside-spec : {M : Type 1} → statement M
+is-outside-spec = tie.close (tie.spec (λ c κs. search needs) (λ c κs. search needs) (λ c. search beyond))

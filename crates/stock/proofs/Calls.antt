@@ -1,0 +1,219 @@
+-- What a call gives and leaves, from what its parts promise.
+-- Assumes nothing.
+use Prim.Native.Nat.{ℕ, _≤_, _<_, max}
+use mathlib.Core.Bool.{Bool, true, false, not}
+use mathlib.Core.List.{List, [], _∷_, map}
+use mathlib.Core.Path.{_≡_, refl, sym, ap, _∙_}
+use native.Mathlib.Nat.{max-le}
+use native.Mathlib.Omega.{arith}
+use borrow.Author.Tests.{eq-eqb, ne-eqb, le-leb, ltb-false, leb-false, leb-true, eqb-true, not-true}
+use lib.Dec.{eqb}
+use lib.ListN.{length, length-append, length-map}
+use Rattle.forms.specs.Choice.{if_then_else_, allOf, anyOf}
+use Rattle.forms.proofs.Choice.{if-true, if-false, if-arms, all-head, all-tail, all-yes, all-empty, any-head, any-tail}
+use Rattle.forms.proofs.Checks.{beyond}
+use Rattle.rules.specs.Stock.{Trade, Whole, clockOf, figuresOf, staying}
+use Rattle.rules.specs.Moments.{dueBy, windowAfter, come, nextOf, fire}
+use Rattle.rules.specs.Messages.{does, after}
+use Rattle.rules.specs.Numbers.{badTrades, rubbish, ownChecks, tells, settles, zeros, answer, afterTelling, notice, tellAnswer, settleAnswer}
+use Rattle.rules.specs.declared.Answer.{Answer}
+use Rattle.rules.specs.declared.Message.{Message}
+use Rattle.rules.specs.declared.Message.the-variants.{Trade as T, Quote as Q, Opening as O, Pause as P, Reopening as R, Closing as X}
+use Rattle.rules.specs.declared.Moment.{Moment}
+use Rattle.rules.specs.declared.Stock.{Stock}
+use Rattle.rules.proofs.Passed.{told, settled}
+use Rattle.rules.proofs.Sound.{fewer}
+use Rattle.window.specs.Places.{trades, whole, laid, Written}
+use Rattle.window.proofs.Window.{length-trades, written-fits}
+use Rattle.stock.proofs.Sights.{message-number-is, settle-number-is, sound-where-done}
+use Rattle.stock.specs.View.{Bytes, bytes, view, lay, shaped, Outcome, telling, settling, Tells, Settles}
+use Rattle.stock.specs.Steps.{Seen, messageNumber, settleNumber, refusal, nothingDone, Held, holding, Makes}
+use Rattle.stock.specs.declared.Told.{Told}
+use Rattle.stock.specs.declared.Settled.{Settled}
+use Rattle.stock.specs.declared.sight.Sight.{Sight}
+use Rattle.stock.specs.declared.steps.Step.{Step}
+
+-- ------------------------------------------------------------------ the window has room
+
+held-few : (h : Whole) → rubbish h ≡ false → length (h .window) ≤ 512
+unfolding rubbish
+held-few h e = ltb-false 512 (length (h .window)) (any-head _ _ (any-tail _ _ e))
+
+all-good : (h : Whole) → rubbish h ≡ false → badTrades (clockOf (h .stock)) (h .window) ≡ false
+unfolding rubbish
+all-good h e = any-head _ _ (any-tail _ _ (any-tail _ _ e))
+
+-- after an accepted message no more than 512 trades are held
+room : (m : Message) (h : Whole) → tells m h ≡ 0 → length (after m h .window) ≤ 512
+unfolding after does ownChecks
+room (T time price) h e =
+    let own = beyond 0 _ 13 _ tt (beyond 0 _ 12 _ tt (told (T time price) h e .own-passes) .1) .0 in
+    simp length-append (omega (arith, leb-false 512 (length (h .window)) own))
+room (Q time participant bid offer) h e = held-few h (told (Q time participant bid offer) h e .sound)
+room (O time participant price) h e = omega arith
+room (P time participant) h e = held-few h (told (P time participant) h e .sound)
+room (R time participant price) h e = omega arith
+room (X time participant price) h e = omega arith
+
+-- nor after a moment
+no-more : (m : Moment) (w : List Trade) → length (windowAfter m w) ≤ length w
+unfolding windowAfter
+no-more m w = if-arms (λ l. length l ≤ length w) _ {x = staying (m .time) w} {y = if anyOf (eqb (m .mark) 122 ∷ eqb (m .mark) 99 ∷ []) then [] else w}
+    (λ _. fewer (m .time) w) (λ _. if-arms (λ l. length l ≤ length w) _ {x = []} {y = w} (λ _. omega arith) (λ _. omega arith))
+
+-- ------------------------------------------------------------------ what is seen holds of the places
+
+module _ (b : Bytes) (g : Sight) (k : Seen b g) (s : g .sound ≡ true) where
+  tests : allOf (shaped b ∷ not (rubbish (view b)) ∷ []) ≡ true
+  tests = sym (k .sound) ∙ s
+
+  in-shape : shaped b ≡ true
+  in-shape = all-head _ _ tests
+
+  no-rubbish : rubbish (view b) ≡ false
+  no-rubbish = not-true _ (all-head _ _ (all-tail _ _ tests))
+
+  times-512 : length (b .times) ≡ 512
+  unfolding shaped
+  times-512 = eqb-true _ _ (all-head _ _ in-shape)
+
+  prices-512 : length (b .prices) ≡ 512
+  unfolding shaped
+  prices-512 = eqb-true _ _ (all-head _ _ (all-tail _ _ in-shape))
+
+  count-512 : b .kept .count ≤ 512
+  count-512 = omega (arith, held-few (view b) no-rubbish, length-trades (b .kept .count) (b .times) (b .prices))
+
+  same-count : g .figures .count ≡ b .kept .count
+  unfolding figuresOf
+  same-count = ap (λ f. f .count) (k .figures s) ∙ length-trades (b .kept .count) (b .times) (b .prices)
+
+  pub held : Held (g .figures) (b .times) (b .prices)
+  unfolding whole
+  held = record {
+    places = rw same-count (all-yes _ _ (eq-eqb _ _ times-512) (all-yes _ _ (eq-eqb _ _ prices-512) (all-yes _ _ (le-leb _ _ count-512) all-empty)));
+    figures = k .figures s ∙ ap (λ n. figuresOf (trades n (b .times) (b .prices))) (sym same-count);
+    good = (clockOf (b .kept .stock), rw same-count (all-good (view b) no-rubbish));
+  }
+
+  -- ---------------------------------------------------------------- what is laid out
+
+  laid-out : (rule : Whole → Whole) (step : Step) (us qs : List ℕ) → length (rule (view b) .window) ≤ 512 → Makes rule (view b) step
+      → Written (step .change) (b .kept .count) (b .times) (b .prices) us qs
+      → bytes (record { stock = step .stock; count = step .count }) us qs ≡ lay (rule (view b)) b
+  laid-out rule step us qs l m w =
+      let times : us ≡ laid (b .kept .count) (map (λ t. t .at) (rule (view b) .window)) (b .times) =
+      w .times ∙ rw (m .window) (written-fits _ _ _ (fits (λ t. t .at) (b .times) times-512)) in
+      let prices : qs ≡ laid (b .kept .count) (map (λ t. t .price) (rule (view b) .window)) (b .prices) =
+      w .prices ∙ rw (m .window) (written-fits _ _ _ (fits (λ t. t .price) (b .prices) prices-512)) in
+      simp (m .stock, m .count, times, prices)
+    where
+      fits : (f : Trade → ℕ) (xs : List ℕ) → length xs ≡ 512 → max (b .kept .count) (length (map f (rule (view b) .window))) ≤ length xs
+      fits f xs e = max-le (omega (arith, count-512)) (simp length-map (omega arith))
+
+-- ------------------------------------------------------------------ a call, done or refused
+
+outcome-is : {A : Type 0} (a a′ : A) (x y : Bytes) → a ≡ a′ → x ≡ y
+    → _≡_ {A = Outcome A} (record { answer = a; bytes = x }) (record { answer = a′; bytes = y })
+outcome-is a a′ x y e f = rw (e, f)
+
+-- beside 1 there are zeros
+one-zeros : (s : Stock) → answer 1 s ≡ zeros 1
+unfolding answer anyOf if_then_else_
+one-zeros s = refl
+
+module _ (b : Bytes) (g : Sight) (k : Seen b g) where
+  abbrev h : Whole
+  h = holding (b .kept .stock) (g .figures) (b .times) (b .prices)
+
+  -- the window that the figures count is the one that is held
+  same : (s : g .sound ≡ true) → h ≡ view b
+  same s = ap (λ n. record { stock = b .kept .stock; window = trades n (b .times) (b .prices) }) (same-count b g k s)
+
+  module _ (m : Message) (n : ℕ) (e : n ≡ messageNumber m g (b .kept)) where
+    told-sound : n ≡ 0 → g .sound ≡ true
+    unfolding messageNumber
+    told-sound z = sound-where-done b g k _ (sym e ∙ z)
+
+    pub message-held : n ≡ 0 → Held (g .figures) (b .times) (b .prices)
+    message-held z = held b g k (told-sound z)
+
+    pub told-done : (step : Step) (us qs : List ℕ) (a : Answer) → n ≡ 0 → Makes (after m) h step
+        → Written (step .change) (b .kept .count) (b .times) (b .prices) us qs → a ≡ answer 0 (step .stock)
+        → Tells m b (record { answer = a; next = record { stock = step .stock; count = step .count } }) us qs
+    unfolding telling tellAnswer afterTelling
+    told-done step us qs a z makes writes ea =
+        let s = told-sound z in
+        let in-shape = in-shape b g k s in
+        let is : n ≡ tells m (view b) = e ∙ message-number-is b g k m ∙ simp (in-shape, if-true) in
+        let done : tells m (view b) ≡ 0 = sym is ∙ z in
+        let made : Makes (after m) (view b) step = rw (same s) at makes in
+        let out = laid-out b g k s (after m) step us qs (room m (view b) done) made writes in
+        let all : telling m b ≡ record { answer = answer 0 (after m (view b) .stock); bytes = lay (after m (view b)) b } =
+        simp (in-shape, done, eq-eqb 0 0 refl, if-true) in
+        outcome-is _ _ _ _ (ea ∙ ap (answer 0) (made .stock)) out ∙ sym all
+
+    pub told-refused : (r : Told) → (n ≡ 0 → ⊥) → r ≡ refusal n (b .kept) → Tells m b r (b .times) (b .prices)
+    unfolding telling tellAnswer afterTelling
+    told-refused r z er = go (shaped b) refl
+      where
+        is : n ≡ (if shaped b then tells m (view b) else 1)
+        is = e ∙ message-number-is b g k m
+
+        go : (x : Bool) → shaped b ≡ x → Tells m b r (b .times) (b .prices)
+        go true q =
+            let n-is : tells m (view b) ≡ n = sym (is ∙ simp (q, if-true)) in
+            simp (q, if-true, n-is, ne-eqb n 0 z, if-false, er)
+        go false q =
+            let n-is : n ≡ 1 = is ∙ simp (q, if-false) in
+            simp (q, if-false, er, n-is, one-zeros)
+
+  module _ (time n : ℕ) (e : n ≡ settleNumber time g (b .kept .stock)) where
+    settled-sound : n ≡ 0 → g .sound ≡ true
+    unfolding settleNumber
+    settled-sound z = sound-where-done b g k _ (sym e ∙ z)
+
+    settled-zero : n ≡ 0 → settles time (view b) ≡ 0
+    settled-zero z =
+        let in-shape = in-shape b g k (settled-sound z) in
+        let is : n ≡ settles time (view b) = e ∙ settle-number-is b g k time ∙ simp (in-shape, if-true) in
+        sym is ∙ z
+
+    -- the moment that is due is not after the time
+    pub moment-held : n ≡ 0 → time < 4_294_967_296 → Held (g .figures) (b .times) (b .prices) × (g .earliest .time < 4_294_967_296)
+    unfolding dueBy
+    moment-held z l =
+        let due = settled time (view b) (settled-zero z) .due in
+        let by : nextOf (view b) .time ≤ time = leb-true _ _ (all-head _ _ (all-tail _ _ due)) in
+        (held b g k (settled-sound z), rw (k .earliest (settled-sound z)) (omega arith))
+
+    pub settled-done : (step : Step) (us qs : List ℕ) (a : Answer) → n ≡ 0 → Makes (come (g .earliest)) h step
+        → Written (step .change) (b .kept .count) (b .times) (b .prices) us qs → a ≡ answer 0 (step .stock)
+        → Settles time b (record { notice = record { answer = a; moment = g .earliest }; next = record { stock = step .stock; count = step .count } }) us qs
+    unfolding settling settleAnswer notice fire come
+    settled-done step us qs a z makes writes ea =
+        let s = settled-sound z in
+        let in-shape = in-shape b g k s in
+        let done = settled-zero z in
+        let made : Makes (come (nextOf (view b))) (view b) step = rw (same s, k .earliest s) at makes in
+        let few : length (fire (view b) .window) ≤ 512 =
+        omega (arith, no-more (nextOf (view b)) (view b .window), held-few (view b) (no-rubbish b g k s)) in
+        let out = laid-out b g k s (come (nextOf (view b))) step us qs few made writes in
+        let all : settling time b ≡ record { answer = notice (view b); bytes = lay (fire (view b)) b } =
+        simp (in-shape, done, eq-eqb 0 0 refl, if-true) in
+        outcome-is _ _ _ _ (simp (ea, made .stock, k .earliest s)) out ∙ sym all
+
+    pub settled-refused : (r : Settled) → (n ≡ 0 → ⊥) → r ≡ nothingDone n (b .kept) → Settles time b r (b .times) (b .prices)
+    unfolding settling settleAnswer
+    settled-refused r z er = go (shaped b) refl
+      where
+        is : n ≡ (if shaped b then settles time (view b) else 1)
+        is = e ∙ settle-number-is b g k time
+
+        go : (x : Bool) → shaped b ≡ x → Settles time b r (b .times) (b .prices)
+        go true q =
+            let n-is : settles time (view b) ≡ n = sym (is ∙ simp (q, if-true)) in
+            simp (q, if-true, n-is, ne-eqb n 0 z, if-false, er)
+        go false q =
+            let n-is : n ≡ 1 = is ∙ simp (q, if-false) in
+            simp (q, if-false, er, n-is, one-zeros)

@@ -1,0 +1,4 @@
+pub mod Sights
+pub mod Changes
+pub mod Calls
+pub mod Laws

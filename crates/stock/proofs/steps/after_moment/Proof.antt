@@ -1,0 +1,24 @@
+use borrow.Author.Needs.{needs}
+use Rattle.stock.proofs.Changes.{moment-step}
+use Rattle.stock.proofs.steps.after_moment.Statement.{statement}
+use Rattle.stock.proofs.steps.after_moment.Tie as tie
+
+cast-time : tie.Need-cast-time
+cast-time c = search needs
+
+change-at-requires : tie.Need-change-at-requires
+change-at-requires c κs = search needs
+
+figures-after-requires : tie.Need-figures-after-requires
+figures-after-requires c κs = search needs
+
+after-moment-requires : tie.Need-after-moment-requires
+after-moment-requires c κs = search needs
+
+returns : tie.Need-returns
+returns c = search moment-step
+
+pub after-moment-spec : {M : Type 1} → statement M
+after-moment-spec =
+    tie.close
+    (tie.spec cast-time change-at-requires figures-after-requires after-moment-requires returns)

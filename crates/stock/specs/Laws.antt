@@ -1,0 +1,62 @@
+-- What the promises of a record's methods come to. Each field is a theorem: `laws` of proofs/Laws.antt proves the record.
+-- Assumes nothing.
+use Prim.Native.Nat.{ℕ}
+use mathlib.Core.Bool.{true, false}
+use mathlib.Core.List.{List}
+use mathlib.Core.Path.{_≡_}
+use Rattle.forms.specs.Promises.{Determines}
+use Rattle.rules.specs.Stock.{Whole}
+use Rattle.rules.specs.Moments.{no-moment}
+use Rattle.rules.specs.Numbers.{zeros, afterTelling, afterSettling, tellAnswer, settleAnswer}
+use Rattle.rules.specs.declared.Message.{Message}
+use Rattle.stock.specs.View.{Bytes, bytes, view, lay, shaped, Tells, Settles}
+use Rattle.stock.specs.declared.Told.{Told}
+use Rattle.stock.specs.declared.Settled.{Settled}
+
+-- what a method hands back, with both parts as it leaves them
+pub record Left (R : Type 0) : Type 0 where
+  pub result : R
+  pub times : List ℕ
+  pub prices : List ℕ
+
+-- what is laid is read again, whatever stood there
+abbrev pub ReadBack : Type 0
+ReadBack = (h : Whole) (b : Bytes) → view (lay h b) ≡ h
+
+-- of parts of 512 places: the rules' answer, and bytes that mean what the rules make of what the bytes meant
+abbrev pub ToldByTheRules : Type 0
+ToldByTheRules = (m : Message) (b : Bytes) (r : Told) (times prices : List ℕ) → Tells m b r times prices → shaped b ≡ true
+    → (r .answer ≡ tellAnswer m (view b)) × (view (bytes (r .next) times prices) ≡ afterTelling m (view b))
+
+abbrev pub SettledByTheRules : Type 0
+SettledByTheRules = (time : ℕ) (b : Bytes) (r : Settled) (times prices : List ℕ) → Settles time b r times prices → shaped b ≡ true
+    → (r .notice ≡ settleAnswer time (view b)) × (view (bytes (r .next) times prices) ≡ afterSettling time (view b))
+
+-- of other parts: 1 with zeros beside it
+abbrev pub ToldOne : Type 0
+ToldOne = (m : Message) (b : Bytes) (r : Told) (times prices : List ℕ) → Tells m b r times prices → shaped b ≡ false → r .answer ≡ zeros 1
+
+abbrev pub SettledOne : Type 0
+SettledOne = (time : ℕ) (b : Bytes) (r : Settled) (times prices : List ℕ) → Settles time b r times prices → shaped b ≡ false
+    → r .notice ≡ record { answer = zeros 1; moment = no-moment }
+
+-- every number but 0 leaves every byte as it stood
+abbrev pub ToldRefused : Type 0
+ToldRefused = (m : Message) (b : Bytes) (r : Told) (times prices : List ℕ) → Tells m b r times prices → (r .answer .number ≡ 0 → ⊥)
+    → bytes (r .next) times prices ≡ b
+
+abbrev pub SettledRefused : Type 0
+SettledRefused = (time : ℕ) (b : Bytes) (r : Settled) (times prices : List ℕ) → Settles time b r times prices
+    → (r .notice .answer .number ≡ 0 → ⊥) → bytes (r .next) times prices ≡ b
+
+pub record Laws : Type 0 where
+  pub read-back : ReadBack
+  pub told-by-the-rules : ToldByTheRules
+  pub settled-by-the-rules : SettledByTheRules
+  pub told-one : ToldOne
+  pub settled-one : SettledOne
+  pub told-refused : ToldRefused
+  pub settled-refused : SettledRefused
+  -- two results that a promise of src/lib.rt allows agree, in the answer, the next record and every place
+  pub tell-determined : (m : Message) (b : Bytes) → Determines (λ (x : Left Told). Tells m b (x .result) (x .times) (x .prices))
+  pub settle-determined : (time : ℕ) (b : Bytes) → Determines (λ (x : Left Settled). Settles time b (x .result) (x .times) (x .prices))

@@ -1,0 +1,93 @@
+-- What the private functions of a call promise each other.
+-- Assumes nothing.
+use Prim.Native.Nat.{ℕ, _+_, _*_, _≤_}
+use mathlib.Core.Bool.{true, false, not}
+use mathlib.Core.List.{List, [], _∷_}
+use mathlib.Core.Path.{_≡_}
+use lib.Dec.{eqb}
+use lib.ListN.{length}
+use Rattle.forms.specs.Choice.{if_then_else_, allOf, anyOf}
+use Rattle.forms.specs.Checks.{first}
+use Rattle.rules.specs.Stock.{Whole, figuresOf}
+use Rattle.rules.specs.Moments.{mark-z, mark-c, mark-v, no-moment, nextOf}
+use Rattle.rules.specs.Numbers.{badTrades, rubbish, messageChecks, timeChecks, answer}
+use Rattle.rules.specs.declared.Figures.{Figures}
+use Rattle.rules.specs.declared.Message.{Message}
+use Rattle.rules.specs.declared.Message.the-variants.{Trade as T, Quote as Q, Opening as O, Pause as P, Reopening as R, Closing as X}
+use Rattle.rules.specs.declared.Stock.{Stock}
+use Rattle.window.specs.Places.{trades, whole, goneOf, changed}
+use Rattle.window.specs.declared.Change.{Change}
+use Rattle.window.specs.declared.Change.the-variants.{Stay, Join, Leave, Empty, Start}
+use Rattle.stock.specs.View.{Bytes, view, shaped}
+use Rattle.stock.specs.declared.Record.{Record}
+use Rattle.stock.specs.declared.Told.{Told}
+use Rattle.stock.specs.declared.Settled.{Settled}
+use Rattle.stock.specs.declared.sight.Sight.{Sight}
+use Rattle.stock.specs.declared.steps.Step.{Step}
+
+-- ------------------------------------------------------------------ what a call sees first
+
+-- that a stock is shaped and no rubbish; of such a one, its window's figures and its earliest moment
+pub record Seen (b : Bytes) (g : Sight) : Type 0 where
+  pub sound : g .sound ≡ allOf (shaped b ∷ not (rubbish (view b)) ∷ [])
+  pub figures : g .sound ≡ true → g .figures ≡ figuresOf (view b .window)
+  pub earliest : g .sound ≡ true → g .earliest ≡ nextOf (view b)
+
+-- a message's number from what was seen
+unfoldable pub messageNumber : Message → Sight → Record → ℕ
+messageNumber m g r = if g .sound then first (messageChecks m (r .count) (g .earliest) (r .stock)) else 1
+
+-- settling's number, likewise
+unfoldable pub settleNumber : ℕ → Sight → Stock → ℕ
+settleNumber time g s = if g .sound then first (timeChecks time (g .earliest) s) else 1
+
+-- a message that is refused, and a settling that did no moment: the record is as it was
+abbrev pub refusal : ℕ → Record → Told
+refusal number r = record { answer = answer number (r .stock); next = r }
+
+abbrev pub nothingDone : ℕ → Record → Settled
+nothingDone number r = record { notice = record { answer = answer number (r .stock); moment = no-moment }; next = r }
+
+-- ------------------------------------------------------------------ a step, before a place is written
+
+-- what an accepted message does to the window
+unfoldable pub changeOf : Message → Change
+changeOf (T time price) = Join time price
+changeOf (Q time participant bid offer) = Stay
+changeOf (O time participant price) = Start time price
+changeOf (P time participant) = Stay
+changeOf (R time participant price) = Start time price
+changeOf (X time participant price) = Empty
+
+-- and what a moment does, by its mark and its time
+unfoldable pub changeAt : ℕ → ℕ → ℕ → List ℕ → Change
+changeAt mark time count times =
+    if eqb mark mark-v then Leave (goneOf time count times) else
+    if anyOf (eqb mark mark-z ∷ eqb mark mark-c ∷ []) then Empty else
+    Stay
+
+-- these are the figures of the window that the places hold, and no trade of it is bad
+pub record Held (f : Figures) (times prices : List ℕ) : Type 0 where
+  pub places : whole (f .count) times prices ≡ true
+  pub figures : f ≡ figuresOf (trades (f .count) times prices)
+  pub good : (clock : ℕ) × (badTrades clock (trades (f .count) times prices) ≡ false)
+
+-- the figures with a trade more
+unfoldable pub withTrade : Figures → ℕ → ℕ → Figures
+withTrade f time price =
+    record { count = f .count + 1; oldest = if eqb (f .count) 0 then time else f .oldest; sum = f .sum + price }
+
+-- the figures of the window once it is changed, as prices of 32 bits have them
+pub record Changed (change : Change) (count : ℕ) (times prices : List ℕ) (f : Figures) : Type 0 where
+  pub figures : f ≡ figuresOf (changed change (trades count times prices))
+  pub small : f .sum ≤ 4_294_967_295 * f .count
+
+-- a stock beside the window of which these are the figures
+abbrev pub holding : Stock → Figures → List ℕ → List ℕ → Whole
+holding s f times prices = record { stock = s; window = trades (f .count) times prices }
+
+-- the step makes of a stock what the rules make of it: its stock, its count, and its window once it is changed
+pub record Makes (rule : Whole → Whole) (h : Whole) (step : Step) : Type 0 where
+  pub stock : step .stock ≡ rule h .stock
+  pub count : step .count ≡ length (rule h .window)
+  pub window : changed (step .change) (h .window) ≡ rule h .window

@@ -1,0 +1,74 @@
+-- One stock in memory, what it means in the rules, and what a call promises (document 01, "What the book holds", "How much a promise says").
+-- Assumes nothing.
+use Prim.Native.Nat.{ℕ}
+use mathlib.Core.Bool.{Bool}
+use mathlib.Core.List.{List, [], _∷_, map}
+use mathlib.Core.Path.{_≡_}
+use lib.Dec.{eqb}
+use lib.ListN.{length}
+use Rattle.forms.specs.Choice.{if_then_else_, allOf}
+use Rattle.rules.specs.Stock.{Whole}
+use Rattle.rules.specs.Moments.{no-moment, fire}
+use Rattle.rules.specs.Messages.{after}
+use Rattle.rules.specs.Numbers.{tells, settles, zeros, tellAnswer, settleAnswer}
+use Rattle.rules.specs.declared.Answer.{Answer}
+use Rattle.rules.specs.declared.Message.{Message}
+use Rattle.rules.specs.declared.Notice.{Notice}
+use Rattle.window.specs.Places.{trades, laid}
+use Rattle.stock.specs.declared.Record.{Record}
+use Rattle.stock.specs.declared.Told.{Told}
+use Rattle.stock.specs.declared.Settled.{Settled}
+
+-- ------------------------------------------------------------------ the bytes of a stock, and what they mean
+
+-- a stock's record beside its places
+pub record Bytes : Type 0 where
+  pub kept : Record
+  pub times : List ℕ
+  pub prices : List ℕ
+
+abbrev pub bytes : Record → List ℕ → List ℕ → Bytes
+bytes kept times prices = record { kept = kept; times = times; prices = prices }
+
+-- read: the stock with the trades in the first `count` places, the oldest first
+abbrev pub view : Bytes → Whole
+view b = record { stock = b .kept .stock; window = trades (b .kept .count) (b .times) (b .prices) }
+
+-- written where b stood: the window in front, zeros in freed places, all other places as they were
+abbrev pub lay : Whole → Bytes → Bytes
+lay h b = record {
+  kept = record { stock = h .stock; count = length (h .window) };
+  times = laid (b .kept .count) (map (λ t. t .at) (h .window)) (b .times);
+  prices = laid (b .kept .count) (map (λ t. t .price) (h .window)) (b .prices);
+}
+
+-- the stock owns 512 places of each array
+unfoldable pub shaped : Bytes → Bool
+shaped b = allOf (eqb (length (b .times)) 512 ∷ eqb (length (b .prices)) 512 ∷ [])
+
+-- ------------------------------------------------------------------ what a call gives and leaves
+
+-- an answer, and every byte that the call leaves
+pub record Outcome (A : Type 0) : Type 0 where
+  pub answer : A
+  pub bytes : Bytes
+
+-- parts that have not 512 places get 1; what is done leaves the layout of what the rules make of the stock, a refusal every byte
+unfoldable pub telling : Message → Bytes → Outcome Answer
+telling m b =
+    if shaped b then record { answer = tellAnswer m (view b); bytes = if eqb (tells m (view b)) 0 then lay (after m (view b)) b else b }
+    else record { answer = zeros 1; bytes = b }
+
+-- settling, likewise
+unfoldable pub settling : ℕ → Bytes → Outcome Notice
+settling time b =
+    if shaped b then record { answer = settleAnswer time (view b); bytes = if eqb (settles time (view b)) 0 then lay (fire (view b)) b else b }
+    else record { answer = record { answer = zeros 1; moment = no-moment }; bytes = b }
+
+-- the promise of telling: the answer, the next record and all places at exit are that outcome
+abbrev pub Tells : Message → Bytes → Told → List ℕ → List ℕ → Type 0
+Tells m b r times prices = _≡_ {A = Outcome Answer} (record { answer = r .answer; bytes = bytes (r .next) times prices }) (telling m b)
+
+-- the promise of settling
+abbrev pub Settles : ℕ → Bytes → Settled → List ℕ → List ℕ → Type 0
+Settles time b r times prices = _≡_ {A = Outcome Notice} (record { answer = r .notice; bytes = bytes (r .next) times prices }) (settling time b)

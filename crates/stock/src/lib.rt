@@ -1,0 +1,78 @@
+// One stock's record by value, beside its two lent parts of 512 places. Every call judges the record and goes
+// over its held trades first; a step is worked out without a place being written, and written at the end.
+// No public function has a `requires`: for any record, parts of any length and any numbers the promise gives
+// the answer, the next record and every place.
+ghost use Rattle.stock.specs.View.{bytes, Tells, Settles};
+use rules::Answer;
+use rules::Message;
+use rules::Notice;
+use rules::Stock;
+
+mod answers;
+mod sight;
+mod steps;
+
+// A stock's record: the stock, and how many trades its places hold.
+#[repr(C)]
+pub struct Record {
+    pub stock: Stock,
+    pub count: u32,
+}
+
+// A message's answer, with the next record.
+pub struct Told {
+    pub answer: Answer,
+    pub next: Record,
+}
+
+// Settling's notice, with the next record.
+pub struct Settled {
+    pub notice: Notice,
+    pub next: Record,
+}
+
+impl Record {
+    // Tells the stock a message.
+    pub fn tell(self, times: &mut [u32], prices: &mut [u32], message: Message) -> Told
+        ensures { λ r. ⌜ Tells message (bytes self (now (times .entry)) (now (prices .entry))) r (now (times .exit)) (now (prices .exit)) ⌝ }
+    {
+        let s = self.stock;
+        let seen = sight::see(self, times, prices);
+        let number = sight::message_number(message, seen, self);
+        if number == 0 {
+            let figures = seen.figures;
+            let step = steps::after_message(message, figures, times, prices, s);
+            let change = step.change;
+            let stock = step.stock;
+            let count = step.count;
+            window::write(times, prices, self.count, change);
+            let answer = answers::answer_of(0, stock);
+            let next = Record { stock, count };
+            return Told { answer, next };
+        }
+        answers::refused(number, self)
+    }
+
+    // Settles the stock to a time: its earliest moment is done if it is not after that time.
+    pub fn settle(self, times: &mut [u32], prices: &mut [u32], time: u32) -> Settled
+        ensures { λ r. ⌜ Settles time (bytes self (now (times .entry)) (now (prices .entry))) r (now (times .exit)) (now (prices .exit)) ⌝ }
+    {
+        let s = self.stock;
+        let seen = sight::see(self, times, prices);
+        let number = sight::settle_number(time, seen, s);
+        if number == 0 {
+            let moment = seen.earliest;
+            let figures = seen.figures;
+            let step = steps::after_moment(moment, figures, times, prices, s);
+            let change = step.change;
+            let stock = step.stock;
+            let count = step.count;
+            window::write(times, prices, self.count, change);
+            let answer = answers::answer_of(0, stock);
+            let notice = Notice { answer, moment };
+            let next = Record { stock, count };
+            return Settled { notice, next };
+        }
+        answers::unsettled(number, self)
+    }
+}

@@ -1,0 +1,126 @@
+// An accepted call, worked out: what it makes of the stock, and what it does to the window. No place is written.
+ghost use mathlib.Core.Path.{_≡_};
+ghost use Prim.Native.Nat.{_*_, _≤_, _<_};
+ghost use Rattle.rules.specs.Moments.{come};
+ghost use Rattle.rules.specs.Messages.{after};
+ghost use Rattle.stock.specs.Steps.{changeOf, changeAt, Held, withTrade, Changed, holding, Makes};
+use rules::Figures;
+use rules::MARK_C;
+use rules::MARK_V;
+use rules::MARK_Z;
+use rules::Message;
+use rules::Moment;
+use rules::Stock;
+use window::Change;
+
+// The stock, how many trades it then holds, and what is still to be done to its places.
+pub struct Step {
+    pub stock: Stock,
+    pub count: u32,
+    pub change: Change,
+}
+
+// What an accepted message does to the window.
+fn change_of(m: Message) -> Change
+    ensures { λ r. ⌜ r ≡ changeOf m ⌝ }
+{
+    match m {
+        Message::Trade { time, price } => Change::Join { time, price },
+        Message::Quote { .. } => Change::Stay,
+        Message::Opening { time, price, .. } => Change::Start { time, price },
+        Message::Pause { .. } => Change::Stay,
+        Message::Reopening { time, price, .. } => Change::Start { time, price },
+        Message::Closing { .. } => Change::Empty,
+    }
+}
+
+// What a moment does to it.
+fn change_at(mark: u32, time: u32, count: u32, times: &[u32]) -> Change
+    ensures { λ r. ⌜ r ≡ changeAt mark time count (now (times .entry)) ⌝ }
+{
+    if mark == MARK_V {
+        let gone = window::gone(time, count, times);
+        return Change::Leave { gone };
+    }
+    if mark == MARK_Z {
+        return Change::Empty;
+    }
+    if mark == MARK_C {
+        return Change::Empty;
+    }
+    Change::Stay
+}
+
+// The figures with a trade more.
+fn joined(f: Figures, time: u32, price: u32) -> Figures
+    requires { ⌜ (f .count ≤ 512) × (f .sum ≤ 999999999 * f .count) ⌝ }
+    ensures { λ r. ⌜ r ≡ withTrade f time price ⌝ }
+{
+    let count = f.count + 1;
+    let sum = f.sum + (price as u64);
+    if f.count == 0 {
+        return Figures {
+            count,
+            oldest: time,
+            sum,
+        };
+    }
+    Figures {
+        count,
+        oldest: f.oldest,
+        sum,
+    }
+}
+
+// The figures of the window once it is changed.
+fn figures_after(change: Change, f: Figures, times: &[u32], prices: &[u32]) -> Figures
+    requires { ⌜ Held f (now times) (now prices) ⌝ }
+    ensures { λ r. ⌜ Changed change (f .count) (now (times .entry)) (now (prices .entry)) r ⌝ }
+{
+    match change {
+        Change::Stay => f,
+        Change::Join { time, price } => joined(f, time, price),
+        Change::Leave { gone } => window::rest(gone, f.count, times, prices),
+        Change::Empty => Figures {
+            count: 0,
+            oldest: 0,
+            sum: 0,
+        },
+        Change::Start { time, price } => Figures {
+            count: 1,
+            oldest: time,
+            sum: price as u64,
+        },
+    }
+}
+
+// The step of an accepted message, with the figures of the window that is held.
+pub fn after_message(m: Message, f: Figures, times: &[u32], prices: &[u32], s: Stock) -> Step
+    requires { ⌜ Held f (now times) (now prices) ⌝ }
+    ensures { λ r. ⌜ Makes (after m) (holding s f (now (times .entry)) (now (prices .entry))) r ⌝ }
+{
+    let change = change_of(m);
+    let g = figures_after(change, f, times, prices);
+    let stock = states::after_message(m, g, s);
+    Step {
+        stock,
+        count: g.count,
+        change,
+    }
+}
+
+// The step of a moment that is due.
+pub fn after_moment(m: Moment, f: Figures, times: &[u32], prices: &[u32], s: Stock) -> Step
+    requires { ⌜ Held f (now times) (now prices) × (m .time < 4294967296) ⌝ }
+    ensures { λ r. ⌜ Makes (come m) (holding s f (now (times .entry)) (now (prices .entry))) r ⌝ }
+{
+    let time = m.time as u32;
+    let change = change_at(m.mark, time, f.count, times);
+    let g = figures_after(change, f, times, prices);
+    let stock = states::after_moment(m.mark, time, g, s);
+    Step {
+        stock,
+        count: g.count,
+        change,
+    }
+}

@@ -1,0 +1,153 @@
+// Plays the day of document 01 through the methods of one stock's record, and prints the lines that document
+// 01 prints: each stands for the stock 0.
+use rules::Answer;
+use rules::Course;
+use rules::Message;
+use rules::Quotes;
+use rules::Reference;
+use rules::Setup;
+use rules::Stock;
+use stock::Record;
+
+// The record that a setup starts: Waiting, no quotes, clock 0, no trade.
+fn started(setup: Setup, end: u32) -> Record {
+    let course = Course {
+        state: 0,
+        clock: 0,
+        early: 1,
+        entry: 0,
+        pause: 0,
+    };
+    let reference = Reference {
+        price: 0,
+        start: 0,
+        hold: 0,
+    };
+    let quotes = Quotes {
+        bids: [0; 16],
+        offers: [0; 16],
+    };
+    Record {
+        stock: Stock {
+            setup,
+            end,
+            course,
+            reference,
+            quotes,
+        },
+        count: 0,
+    }
+}
+
+fn print_number(n: u64) {
+    io::write_all(1, b" ");
+    io::print_decimal(1, n);
+}
+
+// stock, time, mark or letter, answer, state, reference, lower, upper, bid, flag, offer, flag
+fn print_line(time: u64, letter: u8, a: Answer) {
+    let bands = a.bands;
+    let bid = a.best.bid;
+    let offer = a.best.offer;
+    let text = [b' ', letter];
+    io::write_all(1, b"0");
+    print_number(time);
+    io::write_all(1, &text);
+    print_number(a.number as u64);
+    print_number(a.state as u64);
+    print_number(a.reference as u64);
+    print_number(bands.lower);
+    print_number(bands.upper);
+    print_number(bid.price as u64);
+    print_number(bid.flag as u64);
+    print_number(offer.price as u64);
+    print_number(offer.flag as u64);
+    io::write_all(1, b"\n");
+}
+
+// Settles to a time, and prints each moment.
+fn settled(r: Record, times: &mut [u32], prices: &mut [u32], time: u32) -> Record {
+    let mut next = r;
+    for i in 0..2_000u32 {
+        let done = next.settle(times, prices, time);
+        let notice = done.notice;
+        let answer = notice.answer;
+        if answer.number != 0 {
+            return next;
+        }
+        let moment = notice.moment;
+        print_line(moment.time, (moment.mark % 256) as u8, answer);
+        next = done.next;
+    }
+    next
+}
+
+// Settles to a message's time, tells the message, and prints its answer.
+fn told(
+    r: Record,
+    times: &mut [u32],
+    prices: &mut [u32],
+    letter: u8,
+    time: u32,
+    m: Message,
+) -> Record {
+    let before = settled(r, times, prices, time);
+    let done = before.tell(times, prices, m);
+    print_line(time as u64, letter, done.answer);
+    done.next
+}
+
+fn main() {
+    let mut t = [0u32; 512];
+    let mut p = [0u32; 512];
+    let setup = Setup {
+        tier: 2,
+        leverage: 1,
+        primary: 2,
+        close: 115_000,
+    };
+    let r = started(setup, 23_400_000);
+    let m = Message::Opening {
+        time: 1_000,
+        participant: 2,
+        price: 115_000,
+    };
+    let r = told(r, &mut t, &mut p, b'O', 1_000, m);
+    let m = Message::Quote {
+        time: 2_000,
+        participant: 5,
+        bid: 114_900,
+        offer: 115_100,
+    };
+    let r = told(r, &mut t, &mut p, b'Q', 2_000, m);
+    let m = Message::Quote {
+        time: 3_000,
+        participant: 7,
+        bid: 0,
+        offer: 92_000,
+    };
+    let r = told(r, &mut t, &mut p, b'Q', 3_000, m);
+    let m = Message::Quote {
+        time: 4_000,
+        participant: 5,
+        bid: 0,
+        offer: 115_100,
+    };
+    let r = told(r, &mut t, &mut p, b'Q', 4_000, m);
+    let m = Message::Trade {
+        time: 5_000,
+        price: 92_000,
+    };
+    let r = told(r, &mut t, &mut p, b'T', 5_000, m);
+    let m = Message::Reopening {
+        time: 319_000,
+        participant: 2,
+        price: 95_000,
+    };
+    let r = told(r, &mut t, &mut p, b'R', 319_000, m);
+    let m = Message::Trade {
+        time: 319_500,
+        price: 120_000,
+    };
+    told(r, &mut t, &mut p, b'T', 319_500, m);
+}

@@ -1,0 +1,4 @@
+pub mod Window
+pub mod Laws
+pub mod Passes
+pub mod Arrays

@@ -1,0 +1,118 @@
+-- The loops of src/pass.rt: a turn of each and its end, and what the two passes of a survey come to together.
+-- Assumes nothing.
+use Prim.Native.Nat.{ℕ, zero, suc, _+_, _≤_, _<_}
+use mathlib.Core.Bool.{Bool, true, false, _||_}
+use mathlib.Core.List.{List, [], _∷_, foldl, foldl-append}
+use mathlib.Core.Path.{_≡_, refl, sym, ap, _∙_}
+use native.Mathlib.Numerals.{add-one}
+use native.Mathlib.Omega.{arith}
+use borrow.Author.Tests.{lt-ltb, le-ltb}
+use lib.Dec.{ltb}
+use lib.ListN.{length, getD, take, drop, length-take, drop-of-length-le, List·getD-eq-default}
+use lib.Seq.{take-suc, drop-cons, getD-take, length-take-le}
+use Rattle.forms.specs.Choice.{if_then_else_, anyOf}
+use Rattle.forms.proofs.Choice.{if-true, if-false}
+use Rattle.forms.proofs.Loops.{fold-turn, fold-end}
+use Rattle.rules.specs.Numbers.{Seen, notPrice, badTrade, see, badTrades}
+use Rattle.window.specs.Places.{trades, leftOf}
+use Rattle.window.specs.Passes.{seeTime, timesSeen, seePrice, pricesSeen}
+use Rattle.window.specs.declared.pass.Prices.{Prices}
+
+-- ------------------------------------------------------------------ a loop over the first n places
+
+module _ {A : Type 0} (f : A → ℕ → A) (xs : List ℕ) (n i : ℕ) (a w : A) (so-far : foldl f a (drop i (take n xs)) ≡ w) (m : n ≤ length xs) where
+  pub turn : (b : A) → i < n → b ≡ f a (getD xs i 0) → foldl f b (drop (i + 1) (take n xs)) ≡ w
+  turn b h e = fold-turn f (take n xs) 0 a b w n i (length-take-le n xs m) h (e ∙ ap (f a) (sym (getD-take n xs i 0 h))) so-far
+
+  pub done : n ≤ i → a ≡ w
+  done h = fold-end f (take n xs) a w n i (length-take-le n xs m) h so-far
+
+-- the times leave one answer
+pub bad-done : (clock n i : ℕ) (xs : List ℕ) (bad : Bool) (before : ℕ) (w : Seen)
+    → foldl (seeTime clock) (record { bad = bad; last = before }) (drop i (take n xs)) ≡ w → n ≤ length xs → n ≤ i → bad ≡ w .bad
+bad-done clock n i xs bad before w q m h = ap (λ (s : Seen). s .bad) (done (seeTime clock) xs n i _ w q m h)
+
+-- a place of the first n, and past them
+pub at-here : (i n : ℕ) (xs : List ℕ) → i < n → getD xs i 0 ≡ getD (take n xs) i 0
+at-here i n xs h = sym (getD-take n xs i 0 h)
+
+pub at-past : (i n : ℕ) (xs : List ℕ) → n ≤ i → n ≤ length xs → 0 ≡ getD (take n xs) i 0
+at-past i n xs h m = sym (List·getD-eq-default (take n xs) 0 {n = i} (simp length-take (omega arith)))
+
+-- ------------------------------------------------------------------ how many have left
+
+module _ (t k n : ℕ) (xs : List ℕ) (m : n ≤ length xs) (so-far : leftOf t (take n xs) ≡ k + leftOf t (drop k (take n xs))) where
+  at-k : k < n → drop k (take n xs) ≡ getD xs k 0 ∷ drop (suc k) (take n xs)
+  at-k h = rw (drop-cons (take n xs) k 0 (simp length-take (omega arith)), getD-take n xs k 0 h)
+
+  pub stays : k < n → t < getD xs k 0 + 300_000 → k ≡ leftOf t (take n xs)
+  unfolding leftOf
+  stays h l =
+      let z : leftOf t (drop k (take n xs)) ≡ 0 = simp (at-k h, lt-ltb t _ l, if-true) in
+      omega (arith, so-far, z)
+
+  pub leaves : k < n → getD xs k 0 + 300_000 ≤ t → leftOf t (take n xs) ≡ k + 1 + leftOf t (drop (k + 1) (take n xs))
+  unfolding leftOf
+  leaves h l =
+      let z : leftOf t (drop k (take n xs)) ≡ suc (leftOf t (drop (suc k) (take n xs))) = simp (at-k h, le-ltb t _ l, if-false) in
+      rw add-one (omega (arith, so-far, z))
+
+  pub all-left : n ≤ k → k ≡ leftOf t (take n xs)
+  unfolding leftOf
+  all-left h =
+      let z : leftOf t (drop k (take n xs)) ≡ 0 = rw (drop-of-length-le (take n xs) {i = k} (simp length-take (omega arith))) in
+      omega (arith, so-far, z)
+
+pub left-few : (t : ℕ) (xs : List ℕ) → leftOf t xs ≤ length xs
+unfolding leftOf if_then_else_
+left-few t [] = omega arith
+left-few t (u ∷ us) = go (ltb t (u + 300_000)) (left-few t us)
+  where
+    go : (b : Bool) → leftOf t us ≤ length us → (if b then 0 else suc (leftOf t us)) ≤ suc (length us)
+    go true h = omega arith
+    go false h = omega arith
+
+pub few-left : (t n r : ℕ) (xs : List ℕ) → r ≡ leftOf t (take n xs) → r ≤ n
+few-left t n r xs e = omega (arith, e, left-few t (take n xs), length-take n xs)
+
+-- ------------------------------------------------------------------ both passes of a survey
+
+-- one trade more is bad as its time or its price is
+apart : (a b c d e f : Bool) → (if a || b then true else anyOf (anyOf (e ∷ f ∷ []) ∷ c ∷ d ∷ [])) ≡ (((a || c) || d) || ((b || e) || f))
+unfolding if_then_else_ anyOf
+apart true b c d e f = refl
+apart false true true d e f = refl
+apart false true false true e f = refl
+apart false true false false e f = refl
+apart false false true d true f = refl
+apart false false true d false true = refl
+apart false false true d false false = refl
+apart false false false true true f = refl
+apart false false false true false true = refl
+apart false false false true false false = refl
+apart false false false false true f = refl
+apart false false false false false true = refl
+apart false false false false false false = refl
+
+-- the trades are gone over as the times and the prices are, side by side
+side-by-side : (clock n : ℕ) (ts ps : List ℕ) → n ≤ length ts → n ≤ length ps
+    → foldl (see clock) (record { bad = false; last = 0 }) (trades n ts ps)
+    ≡ record { bad = timesSeen clock (take n ts) .bad || pricesSeen (take n ps) .bad; last = timesSeen clock (take n ts) .last }
+unfolding trades see badTrade notPrice timesSeen seeTime pricesSeen seePrice
+side-by-side clock zero ts ps h k = refl
+side-by-side clock (suc n) ts ps h k =
+    simp (foldl-append, side-by-side clock n ts ps (omega arith) (omega arith), take-suc ts n 0 (omega arith), take-suc ps n 0 (omega arith), apart)
+
+pub judged : (clock n : ℕ) (ts ps : List ℕ) → n ≤ length ts → n ≤ length ps
+    → badTrades clock (trades n ts ps) ≡ (timesSeen clock (take n ts) .bad || pricesSeen (take n ps) .bad)
+unfolding badTrades
+judged clock n ts ps h k = ap (λ (s : Seen). s .bad) (side-by-side clock n ts ps h k)
+
+seen-sum : (s : Prices) (xs : List ℕ) → foldl seePrice s xs .sum ≡ foldl _+_ (s .sum) xs
+unfolding seePrice
+seen-sum s [] = refl
+seen-sum s (x ∷ xs) = seen-sum (seePrice s x) xs
+
+pub sum-seen : (xs : List ℕ) → pricesSeen xs .sum ≡ foldl _+_ 0 xs
+unfolding pricesSeen
+sum-seen xs = seen-sum _ xs

@@ -1,0 +1,52 @@
+-- What the places of a window obey. Each field is a theorem: `laws` of proofs/Laws.antt proves the record.
+-- Assumes nothing.
+use Prim.Native.Nat.{ℕ, _≤_}
+use mathlib.Core.List.{List, map}
+use mathlib.Core.Path.{_≡_}
+use lib.Dec.{ltb}
+use lib.ListN.{length, getD, drop}
+use Rattle.forms.specs.Choice.{if_then_else_}
+use Rattle.forms.specs.Promises.{Determines}
+use Rattle.rules.specs.Stock.{Trade, staying}
+use Rattle.rules.specs.declared.Figures.{Figures}
+use Rattle.window.specs.Places.{trades, laid, Written, surveyOf, goneOf, restOf}
+use Rattle.window.specs.declared.Change.{Change}
+use Rattle.window.specs.declared.Surveyed.{Surveyed}
+
+-- what is laid into places is read from them again, whatever stood there
+abbrev pub ReadBack : Type 0
+ReadBack = (count : ℕ) (w : List Trade) (times prices : List ℕ)
+    → trades (length w) (laid count (map (λ t. t .at) w) times) (laid count (map (λ t. t .price) w) prices) ≡ w
+
+-- what is read and laid again changes no place
+abbrev pub LaidAsItWas : Type 0
+LaidAsItWas = (count : ℕ) (times prices : List ℕ) → count ≤ length times → count ≤ length prices
+    → (laid count (map (λ t. t .at) (trades count times prices)) times ≡ times)
+    × (laid count (map (λ t. t .price) (trades count times prices)) prices ≡ prices)
+
+-- "A freed place becomes 0 and no other unused place is written": behind what is laid, a place that was used is 0, any other as it was
+abbrev pub FreedAreZero : Type 0
+FreedAreZero = (count : ℕ) (front xs : List ℕ) (i : ℕ) → length front ≤ i
+    → getD (laid count front xs) i 0 ≡ (if ltb i count then 0 else getD xs i 0)
+
+-- the trades that stay at a time are those without the ones that are gone
+abbrev pub GoneAreTheRest : Type 0
+GoneAreTheRest = (time count : ℕ) (times prices : List ℕ) → count ≤ length times
+    → staying time (trades count times prices) ≡ drop (goneOf time count times) (trades count times prices)
+
+-- both arrays as a call left them
+pub record Places : Type 0 where
+  pub times : List ℕ
+  pub prices : List ℕ
+
+pub record Laws : Type 0 where
+  pub read-back : ReadBack
+  pub laid-as-it-was : LaidAsItWas
+  pub freed-are-zero : FreedAreZero
+  pub gone-are-the-rest : GoneAreTheRest
+  -- two results that a promise of src/lib.rt allows agree
+  pub survey-determined : (clock count : ℕ) (times prices : List ℕ) → Determines (λ (r : Surveyed). r ≡ surveyOf clock count times prices)
+  pub gone-determined : (time count : ℕ) (times : List ℕ) → Determines (λ (r : ℕ). r ≡ goneOf time count times)
+  pub rest-determined : (gone count : ℕ) (times prices : List ℕ) → Determines (λ (r : Figures). r ≡ restOf gone count times prices)
+  pub write-determined : (change : Change) (count : ℕ) (times prices : List ℕ)
+      → Determines (λ (r : Places). Written change count times prices (r .times) (r .prices))
