@@ -28,6 +28,13 @@ module _ {A : Type 0} (b : Bool) (r x y : A) where
   pub passes : b ≡ false → r ≡ y → r ≡ (if b then x else y)
   passes e q = q ∙ sym (if-false b x y e)
 
+-- the arm of a match that the code went: `search (by-case rule)`, and `by-case-of` for a rule that has another argument first
+pub by-case : {A B : Type 0} (rule : A → B) (m n : A) (r : B) → m ≡ n → r ≡ rule n → r ≡ rule m
+by-case rule m n r e q = rw e q
+
+pub by-case-of : {P A B : Type 0} (rule : P → A → B) (p : P) (m n : A) (r : B) → m ≡ n → r ≡ rule p n → r ≡ rule p m
+by-case-of rule p m n r e q = rw e q
+
 -- what holds of each arm where it is chosen holds of the choice
 pub if-arms : {A : Type 0} (P : A → Type 0) (b : Bool) {x y : A} → (b ≡ true → P x) → (b ≡ false → P y) → P (if b then x else y)
 unfolding if_then_else_

@@ -1,20 +1,18 @@
 -- The laws of specs/Laws.antt.
 -- Assumes nothing.
-use mathlib.Core.List.{[], _∷_}
 use Rattle.forms.proofs.Promises.{agree}
-use Rattle.forms.specs.Choice.{anyOf}
 use Rattle.forms.specs.Checks.{first}
-use Rattle.rules.specs.Stock.{clockOf}
 use Rattle.rules.specs.Messages.{timeOf}
-use Rattle.rules.specs.Moments.{next, pastAt}
-use Rattle.rules.specs.Numbers.{badStock, messageChecks, timeChecks}
+use Rattle.rules.specs.Moments.{next}
+use Rattle.rules.specs.Numbers.{messageChecks, timeChecks}
+use Rattle.judge.specs.Rubbish.{rubbishBy}
 use Rattle.judge.specs.Laws.{Laws}
 
 pub laws : Laws
 laws = record {
   time-of-determined = λ m. agree (timeOf m);
   next-moment-determined = λ f s. agree (next f s);
-  is-rubbish-determined = λ earliest s. agree (anyOf (badStock s ∷ pastAt (clockOf s) earliest ∷ []));
+  is-rubbish-determined = λ earliest s. agree (rubbishBy earliest s);
   message-refusal-determined = λ m held earliest s. agree (first (messageChecks m held earliest s));
   settle-refusal-determined = λ time earliest s. agree (first (timeChecks time earliest s));
 }

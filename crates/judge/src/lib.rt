@@ -1,13 +1,11 @@
 // The judgement of a stock and of a call: the next moment, what is rubbish, and the ordered refusals. No
 // public function has a `requires`: each gives for every input what the rules say, and changes nothing.
 ghost use mathlib.Core.Path.{_≡_};
-ghost use mathlib.Core.List.{[], _∷_};
-ghost use Rattle.forms.specs.Choice.{anyOf};
 ghost use Rattle.forms.specs.Checks.{first};
-ghost use Rattle.rules.specs.Stock.{clockOf};
 ghost use Rattle.rules.specs.Messages.{timeOf};
-ghost use Rattle.rules.specs.Moments.{next, pastAt};
-ghost use Rattle.rules.specs.Numbers.{badStock, messageChecks, timeChecks};
+ghost use Rattle.rules.specs.Moments.{next};
+ghost use Rattle.rules.specs.Numbers.{messageChecks, timeChecks};
+ghost use Rattle.judge.specs.Rubbish.{rubbishBy};
 use rules::Figures;
 use rules::LATE;
 use rules::LIMIT;
@@ -52,7 +50,7 @@ pub fn next_moment(f: Figures, s: Stock) -> Moment
 
 // Whether a stock is rubbish, its trades left aside: `earliest` is its next moment.
 pub fn is_rubbish(earliest: Moment, s: Stock) -> bool
-    ensures { λ r. ⌜ r ≡ anyOf (badStock s ∷ pastAt (clockOf s) earliest ∷ []) ⌝ }
+    ensures { λ r. ⌜ r ≡ rubbishBy earliest s ⌝ }
 {
     range::bad_stock(s) | moment::is_past(s.course.clock, earliest)
 }

@@ -33,9 +33,10 @@ pub const MARK_F: u32 = 102;
 
 pub const MARK_H: u32 = 104;
 
-// A price is at most this, and a participant at most that.
+// A price is at most this.
 pub const HIGHEST_PRICE: u32 = 999_999_999;
 
+// A participant is at most this.
 pub const LAST_PARTICIPANT: u32 = 15;
 
 #[repr(C)]

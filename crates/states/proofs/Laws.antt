@@ -1,4 +1,4 @@
--- The laws of specs/Laws.antt. Those that callers cite by themselves are public.
+-- The laws of specs/Laws.antt.
 -- Assumes nothing.
 use mathlib.Core.Path.{refl}
 use borrow.Author.Tests.{le-ltb}
@@ -11,7 +11,7 @@ use Rattle.rules.specs.declared.Message.the-variants.{Trade as T, Quote as Q, O
 use Rattle.states.specs.After.{fit, effectAt, effectOf}
 use Rattle.states.specs.Laws.{AsTheRules, FitsAsItIs, Laws}
 
-pub as-the-rules : AsTheRules
+as-the-rules : AsTheRules
 unfolding after does effectOf effectAt
 as-the-rules (T time price) h = refl
 as-the-rules (Q time participant bid offer) h = refl
@@ -20,7 +20,7 @@ as-the-rules (P time participant) h = refl
 as-the-rules (R time participant price) h = refl
 as-the-rules (X time participant price) h = refl
 
-pub fits-as-it-is : FitsAsItIs
+fits-as-it-is : FitsAsItIs
 unfolding fit
 fits-as-it-is f h = if-false _ _ _ (le-ltb _ _ h)
 

@@ -1,5 +1,5 @@
 // What each message and each moment does to a stock: the state rules, over a stock by value. Of the window
-// they ask its figures. No public function has a `requires`: figures that no window has count as none.
+// they ask its figures. No public function has a `requires`: figures whose mean has not 32 bits count as none.
 ghost use mathlib.Core.Path.{_≡_};
 ghost use Rattle.rules.specs.Stock.{at-time};
 ghost use Rattle.rules.specs.Moments.{effect};

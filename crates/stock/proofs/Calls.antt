@@ -1,6 +1,6 @@
 -- What a call gives and leaves, from what its parts promise.
 -- Assumes nothing.
-use Prim.Native.Nat.{ℕ, _≤_, _<_, max}
+use Prim.Native.Nat.{ℕ, _≤_, max}
 use mathlib.Core.Bool.{Bool, true, false, not}
 use mathlib.Core.List.{List, [], _∷_, map}
 use mathlib.Core.Path.{_≡_, refl, sym, ap, _∙_}
@@ -24,7 +24,7 @@ use Rattle.rules.specs.declared.Stock.{Stock}
 use Rattle.rules.proofs.Passed.{told, settled}
 use Rattle.rules.proofs.Sound.{fewer}
 use Rattle.window.specs.Places.{trades, whole, laid, Written}
-use Rattle.window.proofs.Window.{length-trades, written-fits}
+use Rattle.window.proofs.Window.{length-trades, placed-fits}
 use Rattle.stock.proofs.Sights.{message-number-is, settle-number-is, sound-where-done}
 use Rattle.stock.specs.View.{Bytes, bytes, view, lay, shaped, Outcome, telling, settling, Tells, Settles}
 use Rattle.stock.specs.Steps.{Seen, messageNumber, settleNumber, refusal, nothingDone, Held, holding, Makes}
@@ -103,9 +103,9 @@ module _ (b : Bytes) (g : Sight) (k : Seen b g) (s : g .sound ≡ true) where
       → bytes (record { stock = step .stock; count = step .count }) us qs ≡ lay (rule (view b)) b
   laid-out rule step us qs l m w =
       let times : us ≡ laid (b .kept .count) (map (λ t. t .at) (rule (view b) .window)) (b .times) =
-      w .times ∙ rw (m .window) (written-fits _ _ _ (fits (λ t. t .at) (b .times) times-512)) in
+      w .times ∙ rw (m .window) (placed-fits _ _ _ (fits (λ t. t .at) (b .times) times-512)) in
       let prices : qs ≡ laid (b .kept .count) (map (λ t. t .price) (rule (view b) .window)) (b .prices) =
-      w .prices ∙ rw (m .window) (written-fits _ _ _ (fits (λ t. t .price) (b .prices) prices-512)) in
+      w .prices ∙ rw (m .window) (placed-fits _ _ _ (fits (λ t. t .price) (b .prices) prices-512)) in
       simp (m .stock, m .count, times, prices)
     where
       fits : (f : Trade → ℕ) (xs : List ℕ) → length xs ≡ 512 → max (b .kept .count) (length (map f (rule (view b) .window))) ≤ length xs
@@ -180,12 +180,11 @@ module _ (b : Bytes) (g : Sight) (k : Seen b g) where
         sym is ∙ z
 
     -- the moment that is due is not after the time
-    pub moment-held : n ≡ 0 → time < 4_294_967_296 → Held (g .figures) (b .times) (b .prices) × (g .earliest .time < 4_294_967_296)
+    pub moment-held : n ≡ 0 → Held (g .figures) (b .times) (b .prices) × (g .earliest .time ≤ time)
     unfolding dueBy
-    moment-held z l =
+    moment-held z =
         let due = settled time (view b) (settled-zero z) .due in
-        let by : nextOf (view b) .time ≤ time = leb-true _ _ (all-head _ _ (all-tail _ _ due)) in
-        (held b g k (settled-sound z), rw (k .earliest (settled-sound z)) (omega arith))
+        (held b g k (settled-sound z), rw (k .earliest (settled-sound z)) (leb-true _ _ (all-head _ _ (all-tail _ _ due))))
 
     pub settled-done : (step : Step) (us qs : List ℕ) (a : Answer) → n ≡ 0 → Makes (come (g .earliest)) h step
         → Written (step .change) (b .kept .count) (b .times) (b .prices) us qs → a ≡ answer 0 (step .stock)

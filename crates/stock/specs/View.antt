@@ -34,7 +34,7 @@ bytes kept times prices = record { kept = kept; times = times; prices = prices }
 abbrev pub view : Bytes → Whole
 view b = record { stock = b .kept .stock; window = trades (b .kept .count) (b .times) (b .prices) }
 
--- written where b stood: the window in front, zeros in freed places, all other places as they were
+-- placed where b stood: the window in front, zeros in freed places, all other places as they were
 abbrev pub lay : Whole → Bytes → Bytes
 lay h b = record {
   kept = record { stock = h .stock; count = length (h .window) };

@@ -63,7 +63,7 @@ impl Record {
         if number == 0 {
             let moment = seen.earliest;
             let figures = seen.figures;
-            let step = steps::after_moment(moment, figures, times, prices, s);
+            let step = steps::after_moment(moment, time, figures, times, prices, s);
             let change = step.change;
             let stock = step.stock;
             let count = step.count;

@@ -1,6 +1,6 @@
 // An accepted call, worked out: what it makes of the stock, and what it does to the window. No place is written.
 ghost use mathlib.Core.Path.{_≡_};
-ghost use Prim.Native.Nat.{_*_, _≤_, _<_};
+ghost use Prim.Native.Nat.{_*_, _≤_};
 ghost use Rattle.rules.specs.Moments.{come};
 ghost use Rattle.rules.specs.Messages.{after};
 ghost use Rattle.stock.specs.Steps.{changeOf, changeAt, Held, withTrade, Changed, holding, Makes};
@@ -109,12 +109,21 @@ pub fn after_message(m: Message, f: Figures, times: &[u32], prices: &[u32], s: S
     }
 }
 
-// The step of a moment that is due.
-pub fn after_moment(m: Moment, f: Figures, times: &[u32], prices: &[u32], s: Stock) -> Step
-    requires { ⌜ Held f (now times) (now prices) × (m .time < 4294967296) ⌝ }
+// A moment's own time, which is not after the time `by` which it is due.
+fn own_time(m: Moment, by: u32) -> u32
+    requires { ⌜ m .time ≤ by ⌝ }
+    ensures { λ r. ⌜ r ≡ m .time ⌝ }
+{
+    let own = m.time as u32;
+    own
+}
+
+// The step of a moment that is due by a time; it happens at its own.
+pub fn after_moment(m: Moment, by: u32, f: Figures, times: &[u32], prices: &[u32], s: Stock) -> Step
+    requires { ⌜ Held f (now times) (now prices) × (m .time ≤ by) ⌝ }
     ensures { λ r. ⌜ Makes (come m) (holding s f (now (times .entry)) (now (prices .entry))) r ⌝ }
 {
-    let time = m.time as u32;
+    let time = own_time(m, by);
     let change = change_at(m.mark, time, f.count, times);
     let g = figures_after(change, f, times, prices);
     let stock = states::after_moment(m.mark, time, g, s);

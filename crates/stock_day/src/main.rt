@@ -97,6 +97,57 @@ fn told(
     done.next
 }
 
+// An opening, quotes that bring a limit, and a trade in it.
+fn played_to_the_limit(r: Record, times: &mut [u32], prices: &mut [u32]) -> Record {
+    let m = Message::Opening {
+        time: 1_000,
+        participant: 2,
+        price: 115_000,
+    };
+    let r = told(r, times, prices, b'O', 1_000, m);
+    let m = Message::Quote {
+        time: 2_000,
+        participant: 5,
+        bid: 114_900,
+        offer: 115_100,
+    };
+    let r = told(r, times, prices, b'Q', 2_000, m);
+    let m = Message::Quote {
+        time: 3_000,
+        participant: 7,
+        bid: 0,
+        offer: 92_000,
+    };
+    let r = told(r, times, prices, b'Q', 3_000, m);
+    let m = Message::Quote {
+        time: 4_000,
+        participant: 5,
+        bid: 0,
+        offer: 115_100,
+    };
+    let r = told(r, times, prices, b'Q', 4_000, m);
+    let m = Message::Trade {
+        time: 5_000,
+        price: 92_000,
+    };
+    told(r, times, prices, b'T', 5_000, m)
+}
+
+// The reopening after the pause that the limit became, and a trade outside the new bands.
+fn played_to_the_end(r: Record, times: &mut [u32], prices: &mut [u32]) {
+    let m = Message::Reopening {
+        time: 319_000,
+        participant: 2,
+        price: 95_000,
+    };
+    let r = told(r, times, prices, b'R', 319_000, m);
+    let m = Message::Trade {
+        time: 319_500,
+        price: 120_000,
+    };
+    told(r, times, prices, b'T', 319_500, m);
+}
+
 fn main() {
     let mut t = [0u32; 512];
     let mut p = [0u32; 512];
@@ -107,47 +158,6 @@ fn main() {
         close: 115_000,
     };
     let r = started(setup, 23_400_000);
-    let m = Message::Opening {
-        time: 1_000,
-        participant: 2,
-        price: 115_000,
-    };
-    let r = told(r, &mut t, &mut p, b'O', 1_000, m);
-    let m = Message::Quote {
-        time: 2_000,
-        participant: 5,
-        bid: 114_900,
-        offer: 115_100,
-    };
-    let r = told(r, &mut t, &mut p, b'Q', 2_000, m);
-    let m = Message::Quote {
-        time: 3_000,
-        participant: 7,
-        bid: 0,
-        offer: 92_000,
-    };
-    let r = told(r, &mut t, &mut p, b'Q', 3_000, m);
-    let m = Message::Quote {
-        time: 4_000,
-        participant: 5,
-        bid: 0,
-        offer: 115_100,
-    };
-    let r = told(r, &mut t, &mut p, b'Q', 4_000, m);
-    let m = Message::Trade {
-        time: 5_000,
-        price: 92_000,
-    };
-    let r = told(r, &mut t, &mut p, b'T', 5_000, m);
-    let m = Message::Reopening {
-        time: 319_000,
-        participant: 2,
-        price: 95_000,
-    };
-    let r = told(r, &mut t, &mut p, b'R', 319_000, m);
-    let m = Message::Trade {
-        time: 319_500,
-        price: 120_000,
-    };
-    told(r, &mut t, &mut p, b'T', 319_500, m);
+    let r = played_to_the_limit(r, &mut t, &mut p);
+    played_to_the_end(r, &mut t, &mut p);
 }

@@ -10,8 +10,8 @@ use borrow.Author.Fill.{fill-more}
 use borrow.Rule.Slice.PartMut.{midOf, putMid}
 use lib.ListN.{length, getD, take, drop, set, replicate, length-append, length-take, length-drop, drop-of-length-le}
 use lib.Seq.{drop-length, getD-append-add, getD-drop, paste-suc, length-take-le, take-at, drop-at, take-add, drop-drop, set-split}
-use Rattle.window.specs.Places.{laid, written}
-use Rattle.window.proofs.Window.{written-fits, written-short}
+use Rattle.window.specs.Places.{laid, placed}
+use Rattle.window.proofs.Window.{placed-fits, placed-short}
 
 -- ------------------------------------------------------------------ making places 0
 
@@ -25,7 +25,7 @@ zero-done d xs n i m h k e =
 
 -- ------------------------------------------------------------------ moving places down
 
--- the place that is read next has not been written yet
+-- the place that is read next has not been placed yet
 not-yet : (d : List ℕ) (g i : ℕ) → g + i < length d → getD (take i (drop g d) ++ drop i d) (g + i) 0 ≡ getD (drop g d) i 0
 not-yet d g i h =
     let m : length (take i (drop g d)) ≡ i = simp (length-take, length-drop) (omega arith) in
@@ -40,13 +40,13 @@ lower-turn d xs g i h e =
 -- ------------------------------------------------------------------ the first of the used places leave
 
 -- what is laid then
-laid-rest : (n g : ℕ) (xs : List ℕ) → g ≤ n → n ≤ length xs → written n (drop g (take n xs)) xs ≡ drop g (take n xs) ++ (replicate g 0 ++ drop n xs)
+laid-rest : (n g : ℕ) (xs : List ℕ) → g ≤ n → n ≤ length xs → placed n (drop g (take n xs)) xs ≡ drop g (take n xs) ++ (replicate g 0 ++ drop n xs)
 unfolding laid
 laid-rest n g xs h i =
     let l : length (drop g (take n xs)) ≡ n - g = simp (length-drop, length-take) (omega arith) in
     let z : n - (n - g) ≡ g = omega arith in
     let y : max n (n - g) ≡ n = max-eq-left (omega arith) in
-    written-fits n _ xs (rw (l, y) i) ∙ simp (l, z, y)
+    placed-fits n _ xs (rw (l, y) i) ∙ simp (l, z, y)
 
 -- moved down by g, and then the freed places made 0
 lowered-parts : (g k : ℕ) (d : List ℕ) → g + k ≤ length d
@@ -62,7 +62,7 @@ length-lowered : (g k : ℕ) (d : List ℕ) → g + k ≤ length d → length (t
 length-lowered g k d b = simp (length-append, length-take, length-drop) (omega arith)
 
 pub slide-done : (g n : ℕ) (d l z : List ℕ) → g ≤ n → n ≤ length d → l ≡ take (n - g) (drop g d) ++ drop (n - g) d
-    → z ≡ replicate (length (midOf (n - g) (n - (n - g)) l)) 0 → putMid (n - g) (n - (n - g)) l z ≡ written n (drop g (take n d)) d
+    → z ≡ replicate (length (midOf (n - g) (n - (n - g)) l)) 0 → putMid (n - g) (n - (n - g)) l z ≡ placed n (drop g (take n d)) d
 slide-done g n d l z a b e f =
     let k : n - (n - g) ≡ g = omega arith in
     let s : g + (n - g) ≡ n = omega arith in
@@ -72,45 +72,45 @@ slide-done g n d l z a b e f =
     let p = rw s at (lowered-parts g (n - g) d t) in
     rw (f, e, k, q) (p ∙ sym (laid-rest n g d a b))
 
-pub leave-short : (n g : ℕ) (xs : List ℕ) → length xs < n → xs ≡ written n (drop g (take n xs)) xs
-leave-short n g xs h = sym (written-short n _ xs (omega arith))
+pub leave-short : (n g : ℕ) (xs : List ℕ) → length xs < n → xs ≡ placed n (drop g (take n xs)) xs
+leave-short n g xs h = sym (placed-short n _ xs (omega arith))
 
 pub none-left : {A : Type 0} (n g : ℕ) (xs : List A) → n ≤ g → drop g (take n xs) ≡ []
 none-left n g xs h = drop-of-length-le (take n xs) {i = g} (simp length-take (omega arith))
 
 -- more than are used
-pub leave-all : (n g : ℕ) (xs ys : List ℕ) → n < g → ys ≡ written n (drop n (take n xs)) xs → ys ≡ written n (drop g (take n xs)) xs
+pub leave-all : (n g : ℕ) (xs ys : List ℕ) → n < g → ys ≡ placed n (drop n (take n xs)) xs → ys ≡ placed n (drop g (take n xs)) xs
 leave-all n g xs ys h e = e ∙ rw (none-left n n xs (omega arith), none-left n g xs (omega arith))
 
 -- ------------------------------------------------------------------ one more
 
-pub join-done : (n x : ℕ) (xs : List ℕ) → n < length xs → set xs n x ≡ written n (take n xs ++ (x ∷ [])) xs
+pub join-done : (n x : ℕ) (xs : List ℕ) → n < length xs → set xs n x ≡ placed n (take n xs ++ (x ∷ [])) xs
 unfolding laid
 join-done n x xs h =
     let l : length (take n xs ++ (x ∷ [])) ≡ suc n = simp (length-append, length-take-le n xs (omega arith)) (add-one n) in
     let z : n - suc n ≡ 0 = omega arith in
     let y : max n (suc n) ≡ suc n = max-eq-right (omega arith) in
-    sym (written-fits n _ xs (rw (l, y) h) ∙ simp (l, z, y, set-split, append-assoc))
+    sym (placed-fits n _ xs (rw (l, y) h) ∙ simp (l, z, y, set-split, append-assoc))
 
-pub join-short : (n x : ℕ) (xs : List ℕ) → length xs ≤ n → xs ≡ written n (take n xs ++ (x ∷ [])) xs
+pub join-short : (n x : ℕ) (xs : List ℕ) → length xs ≤ n → xs ≡ placed n (take n xs ++ (x ∷ [])) xs
 join-short n x xs h =
     let l : length (take n xs ++ (x ∷ [])) ≡ length xs + 1 = simp (length-append, length-take) (omega arith) in
-    sym (written-short n _ xs (omega arith))
+    sym (placed-short n _ xs (omega arith))
 
 -- ------------------------------------------------------------------ one alone
 
-pub start-done : (n x : ℕ) (xs ys zs : List ℕ) → n ≤ length xs → ys ≡ written n (drop n (take n xs)) xs → zs ≡ written 0 (take 0 ys ++ (x ∷ [])) ys
-    → zs ≡ written n (x ∷ []) xs
+pub start-done : (n x : ℕ) (xs ys zs : List ℕ) → n ≤ length xs → ys ≡ placed n (drop n (take n xs)) xs → zs ≡ placed 0 (take 0 ys ++ (x ∷ [])) ys
+    → zs ≡ placed n (x ∷ []) xs
 unfolding laid
 start-done n x xs ys zs h e f = f ∙ go n xs h (rw (none-left n n xs (omega arith)) at (e ∙ laid-rest n n xs (omega arith) h))
   where
-    go : (n : ℕ) (xs : List ℕ) → n ≤ length xs → ys ≡ replicate n 0 ++ drop n xs → written 0 (x ∷ []) ys ≡ written n (x ∷ []) xs
+    go : (n : ℕ) (xs : List ℕ) → n ≤ length xs → ys ≡ replicate n 0 ++ drop n xs → placed 0 (x ∷ []) ys ≡ placed n (x ∷ []) xs
     go zero xs h e = rw e
     go (suc m) [] h e = absurd (omega arith)
     go (suc m) (y ∷ xs) h e =
         let a : max (suc m) 1 ≡ suc m = max-eq-left (omega arith) in
         let z : suc m - 1 ≡ m = omega arith in
-        rw e (written-fits 0 _ (0 ∷ (replicate m 0 ++ drop m xs)) (omega arith) ∙ sym (written-fits (suc m) _ (y ∷ xs) (omega arith) ∙ simp (a, z)))
+        rw e (placed-fits 0 _ (0 ∷ (replicate m 0 ++ drop m xs)) (omega arith) ∙ sym (placed-fits (suc m) _ (y ∷ xs) (omega arith) ∙ simp (a, z)))
 
-pub start-short : (n x : ℕ) (xs : List ℕ) → length xs < n → xs ≡ written n (x ∷ []) xs
-start-short n x xs h = sym (written-short n _ xs (omega arith))
+pub start-short : (n x : ℕ) (xs : List ℕ) → length xs < n → xs ≡ placed n (x ∷ []) xs
+start-short n x xs h = sym (placed-short n _ xs (omega arith))

@@ -14,9 +14,9 @@ use Rattle.forms.proofs.Choice.{if-true, if-false}
 use Rattle.forms.proofs.Promises.{agree}
 use Rattle.rules.specs.Stock.{Trade, staying}
 use Rattle.window.specs.Places.{trades, laid, Written, surveyOf, leftOf, goneOf, restOf}
-use Rattle.window.specs.Laws.{ReadBack, LaidAsItWas, FreedAreZero, GoneAreTheRest, Places, Laws}
+use Rattle.window.specs.Laws.{ReadBack, FreedAreZero, GoneAreTheRest, Places, Laws}
 use Rattle.window.specs.declared.Change.{Change}
-use Rattle.window.proofs.Window.{times-of, prices-of, laid-same}
+use Rattle.window.proofs.Window.{times-of}
 
 -- ------------------------------------------------------------------ what is laid is read again
 
@@ -30,17 +30,13 @@ unfolding trades
 trades-front [] ts ps = refl
 trades-front (t ∷ w) ts ps = trades-cons (length w) (t .at) (t .price) _ _ ∙ ap (λ (l : List Trade). t ∷ l) (trades-front w ts ps)
 
-pub read-back : ReadBack
+read-back : ReadBack
 unfolding laid
 read-back count w times prices = trades-front w _ _
 
-pub laid-as-it-was : LaidAsItWas
-laid-as-it-was count times prices h k =
-    (rw (times-of count times prices h) (laid-same count times h), rw (prices-of count times prices k) (laid-same count prices k))
-
 -- ------------------------------------------------------------------ behind what is laid
 
-pub freed-are-zero : FreedAreZero
+freed-are-zero : FreedAreZero
 unfolding laid
 freed-are-zero n front xs i h =
     ap (λ j. getD (front ++ (zeros ++ others)) j 0) at ∙ getD-append-add front (zeros ++ others) k 0 ∙ behind (ltb i n) refl
@@ -80,7 +76,7 @@ staying-drop time (t ∷ w) = go (ltb time (t .at + 300_000)) (staying-drop time
     go true e = refl
     go false e = e
 
-pub gone-are-the-rest : GoneAreTheRest
+gone-are-the-rest : GoneAreTheRest
 unfolding goneOf
 gone-are-the-rest time count times prices h =
     staying-drop time (trades count times prices) ∙ simp (times-of count times prices h, le-leb count (length times) h, if-true)
@@ -98,7 +94,6 @@ written-agree change count times prices r s a b =
 pub laws : Laws
 laws = record {
   read-back = read-back;
-  laid-as-it-was = laid-as-it-was;
   freed-are-zero = freed-are-zero;
   gone-are-the-rest = gone-are-the-rest;
   survey-determined = λ clock count times prices. agree (surveyOf clock count times prices);

@@ -16,7 +16,7 @@ use Rattle.forms.specs.Choice.{if_then_else_}
 use Rattle.forms.proofs.Choice.{if-true, if-false, if-no, any-head, any-tail, tests}
 use Rattle.rules.specs.Stock.{Trade, total, oldest, figuresOf}
 use Rattle.rules.specs.Numbers.{Seen, notPrice, badTrade, see, badTrades}
-use Rattle.window.specs.Places.{trades, laid, written, whole}
+use Rattle.window.specs.Places.{trades, laid, placed, whole}
 
 -- ------------------------------------------------------------------ the trades in the first n places
 
@@ -81,17 +81,17 @@ pub figures-snoc : (w : List Trade) (t : Trade)
 unfolding figuresOf
 figures-snoc w t = simp (length-append, oldest-snoc, total-snoc)
 
--- ------------------------------------------------------------------ what is written into one array
+-- ------------------------------------------------------------------ what is placed into one array
 
 -- there is room
-pub written-fits : (n : ℕ) (front xs : List ℕ) → max n (length front) ≤ length xs → written n front xs ≡ laid n front xs
-unfolding written
-written-fits n front xs h = if-true _ _ _ (le-leb _ _ h)
+pub placed-fits : (n : ℕ) (front xs : List ℕ) → max n (length front) ≤ length xs → placed n front xs ≡ laid n front xs
+unfolding placed
+placed-fits n front xs h = if-true _ _ _ (le-leb _ _ h)
 
 -- there is none
-pub written-short : (n : ℕ) (front xs : List ℕ) → length xs < max n (length front) → written n front xs ≡ xs
-unfolding written
-written-short n front xs h = if-false _ _ _ (lt-leb _ _ h)
+pub placed-short : (n : ℕ) (front xs : List ℕ) → length xs < max n (length front) → placed n front xs ≡ xs
+unfolding placed
+placed-short n front xs h = if-false _ _ _ (lt-leb _ _ h)
 
 -- what stands in the used places, laid again
 pub laid-same : (n : ℕ) (xs : List ℕ) → n ≤ length xs → laid n (take n xs) xs ≡ xs
@@ -103,12 +103,12 @@ laid-same n xs h =
     simp (l, z, y, take-append-drop)
 
 -- the same, whether there is room or not
-pub written-take : (n : ℕ) (xs : List ℕ) → written n (take n xs) xs ≡ xs
-written-take n xs = go (decLe n (length xs))
+pub placed-take : (n : ℕ) (xs : List ℕ) → placed n (take n xs) xs ≡ xs
+placed-take n xs = go (decLe n (length xs))
   where
-    go : Dec (n ≤ length xs) → written n (take n xs) xs ≡ xs
-    go (yes h) = written-fits n _ xs (simp length-take (omega arith)) ∙ laid-same n xs h
-    go (no z) = written-short n _ xs (omega arith)
+    go : Dec (n ≤ length xs) → placed n (take n xs) xs ≡ xs
+    go (yes h) = placed-fits n _ xs (simp length-take (omega arith)) ∙ laid-same n xs h
+    go (no z) = placed-short n _ xs (omega arith)
 
 -- ------------------------------------------------------------------ places that are whole
 

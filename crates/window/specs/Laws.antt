@@ -18,12 +18,6 @@ abbrev pub ReadBack : Type 0
 ReadBack = (count : ℕ) (w : List Trade) (times prices : List ℕ)
     → trades (length w) (laid count (map (λ t. t .at) w) times) (laid count (map (λ t. t .price) w) prices) ≡ w
 
--- what is read and laid again changes no place
-abbrev pub LaidAsItWas : Type 0
-LaidAsItWas = (count : ℕ) (times prices : List ℕ) → count ≤ length times → count ≤ length prices
-    → (laid count (map (λ t. t .at) (trades count times prices)) times ≡ times)
-    × (laid count (map (λ t. t .price) (trades count times prices)) prices ≡ prices)
-
 -- "A freed place becomes 0 and no other unused place is written": behind what is laid, a place that was used is 0, any other as it was
 abbrev pub FreedAreZero : Type 0
 FreedAreZero = (count : ℕ) (front xs : List ℕ) (i : ℕ) → length front ≤ i
@@ -41,7 +35,6 @@ pub record Places : Type 0 where
 
 pub record Laws : Type 0 where
   pub read-back : ReadBack
-  pub laid-as-it-was : LaidAsItWas
   pub freed-are-zero : FreedAreZero
   pub gone-are-the-rest : GoneAreTheRest
   -- two results that a promise of src/lib.rt allows agree

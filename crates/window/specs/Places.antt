@@ -26,8 +26,8 @@ unfoldable pub laid : ℕ → List ℕ → List ℕ → List ℕ
 laid n front xs = front ++ (replicate (n - length front) 0 ++ drop (max n (length front)) xs)
 
 -- the same where there is room for what was used and for what is laid; all stays where there is not
-unfoldable pub written : ℕ → List ℕ → List ℕ → List ℕ
-written n front xs = if leb (max n (length front)) (length xs) then laid n front xs else xs
+unfoldable pub placed : ℕ → List ℕ → List ℕ → List ℕ
+placed n front xs = if leb (max n (length front)) (length xs) then laid n front xs else xs
 
 -- ------------------------------------------------------------------ what a step does to a window
 
@@ -41,8 +41,8 @@ changed (Start time price) w = record { at = time; price = price } ∷ []
 
 -- the promise of `write`: both arrays with the changed window laid into them
 pub record Written (change : Change) (count : ℕ) (ts ps ts′ ps′ : List ℕ) : Type 0 where
-  pub times : ts′ ≡ written count (map (λ t. t .at) (changed change (trades count ts ps))) ts
-  pub prices : ps′ ≡ written count (map (λ t. t .price) (changed change (trades count ts ps))) ps
+  pub times : ts′ ≡ placed count (map (λ t. t .at) (changed change (trades count ts ps))) ts
+  pub prices : ps′ ≡ placed count (map (λ t. t .price) (changed change (trades count ts ps))) ps
 
 -- ------------------------------------------------------------------ what is read of a window
 

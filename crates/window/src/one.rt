@@ -3,11 +3,11 @@ ghost use mathlib.Core.Path.{_≡_};
 ghost use mathlib.Core.List.{[], _∷_, _++_};
 ghost use Prim.Native.Nat.{_+_, _≤_};
 ghost use lib.ListN.{length, take, drop, replicate};
-ghost use Rattle.window.specs.Places.{written};
+ghost use Rattle.window.specs.Places.{placed};
 
 // Puts `x` behind the used places, where there is one more.
 pub fn join(xs: &mut [u32], n: usize, x: u32)
-    ensures { λ _. ⌜ now (xs .exit) ≡ written n (take n (now (xs .entry)) ++ (x ∷ [])) (now (xs .entry)) ⌝ }
+    ensures { λ _. ⌜ now (xs .exit) ≡ placed n (take n (now (xs .entry)) ++ (x ∷ [])) (now (xs .entry)) ⌝ }
 {
     if n < xs.len() {
         xs[n] = x;
@@ -36,7 +36,7 @@ pub fn lower(xs: &mut [u32], gone: usize, keep: usize)
 // Moves the used places down over the first `gone`, and makes the freed ones 0.
 pub fn slide(xs: &mut [u32], n: usize, gone: usize)
     requires { ⌜ (gone ≤ n) × (n ≤ length (now xs)) ⌝ }
-    ensures { λ _. ⌜ now (xs .exit) ≡ written n (drop gone (take n (now (xs .entry)))) (now (xs .entry)) ⌝ }
+    ensures { λ _. ⌜ now (xs .exit) ≡ placed n (drop gone (take n (now (xs .entry)))) (now (xs .entry)) ⌝ }
 {
     let keep = n - gone;
     lower(xs, gone, keep);
@@ -45,7 +45,7 @@ pub fn slide(xs: &mut [u32], n: usize, gone: usize)
 
 // The first `gone` leave, all where so many are not used.
 pub fn leave(xs: &mut [u32], n: usize, gone: usize)
-    ensures { λ _. ⌜ now (xs .exit) ≡ written n (drop gone (take n (now (xs .entry)))) (now (xs .entry)) ⌝ }
+    ensures { λ _. ⌜ now (xs .exit) ≡ placed n (drop gone (take n (now (xs .entry)))) (now (xs .entry)) ⌝ }
 {
     if xs.len() < n {
         return;
@@ -59,7 +59,7 @@ pub fn leave(xs: &mut [u32], n: usize, gone: usize)
 
 // Leaves `x` alone, in the first place.
 pub fn start(xs: &mut [u32], n: usize, x: u32)
-    ensures { λ _. ⌜ now (xs .exit) ≡ written n (x ∷ []) (now (xs .entry)) ⌝ }
+    ensures { λ _. ⌜ now (xs .exit) ≡ placed n (x ∷ []) (now (xs .entry)) ⌝ }
 {
     if n <= xs.len() {
         leave(xs, n, n);

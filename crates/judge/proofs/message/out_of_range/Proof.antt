@@ -1,18 +1,13 @@
 use borrow.Author.Needs.{needs}
-use Prim.Native.Nat.{ℕ}
+use Rattle.forms.proofs.Choice.{by-case-of}
 use mathlib.Core.Bool.{Bool, _||_}
 use mathlib.Core.List.{[], _∷_}
 use mathlib.Core.Path.{_≡_}
 use Rattle.forms.specs.Choice.{anyOf}
 use Rattle.rules.specs.Numbers.{outOfRange}
-use Rattle.rules.specs.declared.Message.{Message}
 use Rattle.forms.proofs.Bools.{joined, either}
 use Rattle.judge.proofs.message.out_of_range.Statement.{statement}
 use Rattle.judge.proofs.message.out_of_range.Tie as tie
-
--- what is right of the letter that the message is, is right of the message
-by-letter : (end : ℕ) (m n : Message) (r : Bool) → m ≡ n → r ≡ outOfRange end n → r ≡ outOfRange end m
-by-letter end m n r e q = rw e q
 
 -- of a quote, whose time a call has judged
 of-four : (a b c t d : Bool) → t ≡ d → (a || b || c || t) ≡ anyOf (a ∷ b ∷ c ∷ d ∷ [])
@@ -25,5 +20,5 @@ out-of-range-spec =
     (tie.spec (λ c. search needs) (λ c κs. search needs) (λ c κs. search needs) (λ c. search needs) (λ c κs. search needs)
     (λ c. search needs) (λ c κs. search needs) (λ c. search needs) (λ c κs. search needs) (λ c. search needs) (λ c κs. search needs)
     (λ c. search needs) (λ c κs. search needs)
-    (λ c. search (by-letter, either)) (λ c. search (by-letter, of-four)) (λ c. search by-letter) (λ c. search (by-letter, either))
-    (λ c. search by-letter) (λ c. search by-letter))
+    (λ c. search (by-case-of outOfRange, either)) (λ c. search (by-case-of outOfRange, of-four)) (λ c. search (by-case-of outOfRange)) (λ c. search (by-case-of outOfRange, either))
+    (λ c. search (by-case-of outOfRange)) (λ c. search (by-case-of outOfRange)))

@@ -12,8 +12,7 @@ settle-number-requires c κs = search needs
 after-moment-requires : tie.Need-after-moment-requires
 after-moment-requires c κs =
     let d = c .before .before .before .before in
-    let e = d .before .before .before .before .before .before .before .before in
-    search (moment-held, d .before .before .see .ensures, d .before .settle-number .ensures, d .if1 .taken, e .fits)
+    moment-held _ _ (d .before .before .see .ensures) _ _ (d .before .settle-number .ensures) (d .if1 .taken)
 
 write-requires : tie.Need-write-requires
 write-requires c κs = search needs

@@ -3,8 +3,8 @@ use Rattle.stock.proofs.Changes.{moment-step}
 use Rattle.stock.proofs.steps.after_moment.Statement.{statement}
 use Rattle.stock.proofs.steps.after_moment.Tie as tie
 
-cast-time : tie.Need-cast-time
-cast-time c = search needs
+own-time-requires : tie.Need-own-time-requires
+own-time-requires c κs = search needs
 
 change-at-requires : tie.Need-change-at-requires
 change-at-requires c κs = search needs
@@ -21,4 +21,4 @@ returns c = search moment-step
 pub after-moment-spec : {M : Type 1} → statement M
 after-moment-spec =
     tie.close
-    (tie.spec cast-time change-at-requires figures-after-requires after-moment-requires returns)
+    (tie.spec own-time-requires change-at-requires figures-after-requires after-moment-requires returns)
