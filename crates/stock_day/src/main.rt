@@ -97,8 +97,8 @@ fn told(
     done.next
 }
 
-// An opening, quotes that bring a limit, and a trade in it.
-fn played_to_the_limit(r: Record, times: &mut [u32], prices: &mut [u32]) -> Record {
+// An opening, and a quote inside the bands.
+fn opened(r: Record, times: &mut [u32], prices: &mut [u32]) -> Record {
     let m = Message::Opening {
         time: 1_000,
         participant: 2,
@@ -111,7 +111,11 @@ fn played_to_the_limit(r: Record, times: &mut [u32], prices: &mut [u32]) -> Reco
         bid: 114_900,
         offer: 115_100,
     };
-    let r = told(r, times, prices, b'Q', 2_000, m);
+    told(r, times, prices, b'Q', 2_000, m)
+}
+
+// An offer at the lower band, and Limit once the bid is gone.
+fn limited(r: Record, times: &mut [u32], prices: &mut [u32]) -> Record {
     let m = Message::Quote {
         time: 3_000,
         participant: 7,
@@ -125,27 +129,22 @@ fn played_to_the_limit(r: Record, times: &mut [u32], prices: &mut [u32]) -> Reco
         bid: 0,
         offer: 115_100,
     };
-    let r = told(r, times, prices, b'Q', 4_000, m);
+    told(r, times, prices, b'Q', 4_000, m)
+}
+
+// A trade in Limit, and the reopening after the pause that it became.
+fn reopened(r: Record, times: &mut [u32], prices: &mut [u32]) -> Record {
     let m = Message::Trade {
         time: 5_000,
         price: 92_000,
     };
-    told(r, times, prices, b'T', 5_000, m)
-}
-
-// The reopening after the pause that the limit became, and a trade outside the new bands.
-fn played_to_the_end(r: Record, times: &mut [u32], prices: &mut [u32]) {
+    let r = told(r, times, prices, b'T', 5_000, m);
     let m = Message::Reopening {
         time: 319_000,
         participant: 2,
         price: 95_000,
     };
-    let r = told(r, times, prices, b'R', 319_000, m);
-    let m = Message::Trade {
-        time: 319_500,
-        price: 120_000,
-    };
-    told(r, times, prices, b'T', 319_500, m);
+    told(r, times, prices, b'R', 319_000, m)
 }
 
 fn main() {
@@ -158,6 +157,12 @@ fn main() {
         close: 115_000,
     };
     let r = started(setup, 23_400_000);
-    let r = played_to_the_limit(r, &mut t, &mut p);
-    played_to_the_end(r, &mut t, &mut p);
+    let r = opened(r, &mut t, &mut p);
+    let r = limited(r, &mut t, &mut p);
+    let r = reopened(r, &mut t, &mut p);
+    let m = Message::Trade {
+        time: 319_500,
+        price: 120_000,
+    };
+    told(r, &mut t, &mut p, b'T', 319_500, m);
 }
