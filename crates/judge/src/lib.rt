@@ -4,15 +4,17 @@ ghost use mathlib.Core.Path.{_≡_};
 ghost use Rattle.forms.specs.Checks.{first};
 ghost use Rattle.rules.specs.Messages.{timeOf};
 ghost use Rattle.rules.specs.Moments.{next};
-ghost use Rattle.rules.specs.Numbers.{messageChecks, timeChecks};
+ghost use Rattle.rules.specs.Numbers.{badEnd, badSetup, messageChecks, timeChecks};
 ghost use Rattle.judge.specs.Rubbish.{rubbishBy};
 use rules::Figures;
+use rules::LAST_PARTICIPANT;
 use rules::LATE;
 use rules::LIMIT;
 use rules::MARK_W;
 use rules::MARK_Z;
 use rules::Message;
 use rules::Moment;
+use rules::Setup;
 use rules::Stock;
 
 mod message;
@@ -46,6 +48,30 @@ pub fn next_moment(f: Figures, s: Stock) -> Moment
     let late = moment::sooner(MARK_W, edge, (state <= LATE) & (clock < edge), x);
     let early = moment::sooner(MARK_W, 900_000, (state <= LATE) & (clock < 900_000), late);
     moment::sooner(MARK_Z, end, state <= LIMIT, early)
+}
+
+// Whether a session's end is out of range.
+pub fn bad_end(end: u32) -> bool
+    ensures { λ r. ⌜ r ≡ badEnd end ⌝ }
+{
+    (end < 3_600_000) | (23_400_000 < end)
+}
+
+// Whether a number of the setup is out of range.
+pub fn bad_setup(u: Setup) -> bool
+    ensures { λ r. ⌜ r ≡ badSetup u ⌝ }
+{
+    let tier = u.tier;
+    let leverage = u.leverage;
+    let primary = u.primary;
+    let close = range::not_price(u.close);
+    (tier == 0)
+        | (2 < tier)
+        | (leverage == 0)
+        | (3 < leverage)
+        | ((tier == 1) & (1 < leverage))
+        | (LAST_PARTICIPANT < primary)
+        | close
 }
 
 // Whether a stock is rubbish, its trades left aside: `earliest` is its next moment.

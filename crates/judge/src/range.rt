@@ -1,15 +1,13 @@
 // What is out of range, and of a stock, its window left aside, what is rubbish.
 ghost use mathlib.Core.Path.{_≡_};
 ghost use mathlib.Core.List.{foldl};
-ghost use Rattle.rules.specs.Numbers.{notPrice, notTime, badEnd, badSetup, badTimes, orNotSide, badQuotes, badReference, badStock};
+ghost use Rattle.rules.specs.Numbers.{notPrice, notTime, badTimes, orNotSide, badQuotes, badReference, badStock};
 use crate::moment;
 use rules::CLOSED;
 use rules::HIGHEST_PRICE;
-use rules::LAST_PARTICIPANT;
 use rules::LATE;
 use rules::PAUSED;
 use rules::Quotes;
-use rules::Setup;
 use rules::Stock;
 use rules::TRADING;
 
@@ -25,30 +23,6 @@ pub fn not_time(end: u32, time: u32) -> bool
     ensures { λ r. ⌜ r ≡ notTime end time ⌝ }
 {
     (end as u64) + 300_000 < (time as u64)
-}
-
-// Whether a session's end is out of range.
-fn bad_end(end: u32) -> bool
-    ensures { λ r. ⌜ r ≡ badEnd end ⌝ }
-{
-    (end < 3_600_000) | (23_400_000 < end)
-}
-
-// Whether a number of the setup is out of range.
-fn bad_setup(u: Setup) -> bool
-    ensures { λ r. ⌜ r ≡ badSetup u ⌝ }
-{
-    let tier = u.tier;
-    let leverage = u.leverage;
-    let primary = u.primary;
-    let close = not_price(u.close);
-    (tier == 0)
-        | (2 < tier)
-        | (leverage == 0)
-        | (3 < leverage)
-        | ((tier == 1) & (1 < leverage))
-        | (LAST_PARTICIPANT < primary)
-        | close
 }
 
 // Whether a kept time is out of range, a stale one too.
@@ -93,14 +67,14 @@ fn bad_reference(s: Stock) -> bool
     (HIGHEST_PRICE < price) | ((price == 0) & (TRADING <= state) & (state <= LATE))
 }
 
-// Whether one of these is bad, or the state, or a pause that began too late for its state.
+// Whether the setup, the end or one of these is bad, or the state, or a pause that began too late for its state.
 pub fn bad_stock(s: Stock) -> bool
     ensures { λ r. ⌜ r ≡ badStock s ⌝ }
 {
     let state = s.course.state;
     let pause = s.course.pause as u64;
-    let setup = bad_setup(s.setup);
-    let end = bad_end(s.end);
+    let setup = crate::bad_setup(s.setup);
+    let end = crate::bad_end(s.end);
     let times = bad_times(s);
     let quotes = bad_quotes(s.quotes);
     let reference = bad_reference(s);

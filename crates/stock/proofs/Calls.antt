@@ -26,7 +26,7 @@ use Rattle.rules.proofs.Sound.{fewer}
 use Rattle.window.specs.Places.{trades, whole, laid, Written}
 use Rattle.window.proofs.Window.{length-trades, placed-fits}
 use Rattle.stock.proofs.Sights.{message-number-is, settle-number-is, sound-where-done}
-use Rattle.stock.specs.View.{Bytes, bytes, view, lay, shaped, Outcome, telling, settling, Tells, Settles}
+use Rattle.stock.specs.View.{Bytes, bytes, view, lay, shaped, Outcome, telling, settling, Tells, Settles, reading}
 use Rattle.stock.specs.Steps.{Seen, messageNumber, settleNumber, refusal, nothingDone, Held, holding, Makes}
 use Rattle.stock.specs.declared.Told.{Told}
 use Rattle.stock.specs.declared.Settled.{Settled}
@@ -35,7 +35,7 @@ use Rattle.stock.specs.declared.steps.Step.{Step}
 
 -- ------------------------------------------------------------------ the window has room
 
-held-few : (h : Whole) → rubbish h ≡ false → length (h .window) ≤ 512
+pub held-few : (h : Whole) → rubbish h ≡ false → length (h .window) ≤ 512
 unfolding rubbish
 held-few h e = ltb-false 512 (length (h .window)) (any-head _ _ (any-tail _ _ e))
 
@@ -44,7 +44,7 @@ unfolding rubbish
 all-good h e = any-head _ _ (any-tail _ _ (any-tail _ _ e))
 
 -- after an accepted message no more than 512 trades are held
-room : (m : Message) (h : Whole) → tells m h ≡ 0 → length (after m h .window) ≤ 512
+pub room : (m : Message) (h : Whole) → tells m h ≡ 0 → length (after m h .window) ≤ 512
 unfolding after does ownChecks
 room (T time price) h e =
     let own = beyond 0 _ 13 _ tt (beyond 0 _ 12 _ tt (told (T time price) h e .own-passes) .1) .0 in
@@ -60,6 +60,10 @@ no-more : (m : Moment) (w : List Trade) → length (windowAfter m w) ≤ length 
 unfolding windowAfter
 no-more m w = if-arms (λ l. length l ≤ length w) _ {x = staying (m .time) w} {y = if anyOf (eqb (m .mark) 122 ∷ eqb (m .mark) 99 ∷ []) then [] else w}
     (λ _. fewer (m .time) w) (λ _. if-arms (λ l. length l ≤ length w) _ {x = []} {y = w} (λ _. omega arith) (λ _. omega arith))
+
+pub fired-few : (h : Whole) → rubbish h ≡ false → length (fire h .window) ≤ 512
+unfolding fire come
+fired-few h e = omega (arith, no-more (nextOf h) (h .window), held-few h e)
 
 -- ------------------------------------------------------------------ what is seen holds of the places
 
@@ -195,9 +199,7 @@ module _ (b : Bytes) (g : Sight) (k : Seen b g) where
         let in-shape = in-shape b g k s in
         let done = settled-zero z in
         let made : Makes (come (nextOf (view b))) (view b) step = rw (same s, k .earliest s) at makes in
-        let few : length (fire (view b) .window) ≤ 512 =
-        omega (arith, no-more (nextOf (view b)) (view b .window), held-few (view b) (no-rubbish b g k s)) in
-        let out = laid-out b g k s (come (nextOf (view b))) step us qs few made writes in
+        let out = laid-out b g k s (come (nextOf (view b))) step us qs (fired-few (view b) (no-rubbish b g k s)) made writes in
         let all : settling time b ≡ record { answer = notice (view b); bytes = lay (fire (view b)) b } =
         simp (in-shape, done, eq-eqb 0 0 refl, if-true) in
         outcome-is _ _ _ _ (simp (ea, made .stock, k .earliest s)) out ∙ sym all
@@ -216,3 +218,13 @@ module _ (b : Bytes) (g : Sight) (k : Seen b g) where
         go false q =
             let n-is : n ≡ 1 = is ∙ simp (q, if-false) in
             simp (q, if-false, er, n-is, one-zeros)
+
+  -- ---------------------------------------------------------------- a reading
+
+  pub read-sound : (a : Answer) → g .sound ≡ true → a ≡ answer 0 (b .kept .stock) → a ≡ reading b
+  unfolding reading
+  read-sound a s ea = ea ∙ simp (tests b g k s, if-true)
+
+  pub read-unsound : (a : Answer) → g .sound ≡ false → a ≡ answer 1 (b .kept .stock) → a ≡ reading b
+  unfolding reading
+  read-unsound a s ea = let no = sym (k .sound) ∙ s in ea ∙ simp (one-zeros, no, if-false)

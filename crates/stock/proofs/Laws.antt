@@ -1,26 +1,49 @@
 -- The promises determine their results, and say what the rules say.
 -- Assumes nothing.
-use Prim.Native.Nat.{ℕ}
+use Prim.Native.Nat.{ℕ, _≤_, max}
 use mathlib.Core.Bool.{Bool, true, false}
+use mathlib.Core.List.{List, map}
 use mathlib.Core.Path.{_≡_, refl, sym, ap, _∙_}
-use borrow.Author.Tests.{ne-eqb, eqb-true}
+use native.Mathlib.Nat.{max-le}
+use native.Mathlib.Omega.{arith}
+use borrow.Author.Tests.{eq-eqb, ne-eqb, eqb-true}
 use lib.Dec.{eqb}
+use lib.ListN.{length, length-append, length-map, length-replicate, length-drop}
 use Rattle.forms.specs.Choice.{if_then_else_}
-use Rattle.forms.proofs.Choice.{if-true, if-false, if-arms}
-use Rattle.rules.specs.Stock.{Whole, stateOf}
+use Rattle.forms.proofs.Choice.{if-true, if-false, if-arms, all-head, all-tail, all-yes, all-empty}
+use Rattle.forms.proofs.Promises.{agree}
+use Rattle.rules.specs.Stock.{Trade, Whole, stateOf}
 use Rattle.rules.specs.Quotes.{bandsIn, bestOf}
 use Rattle.rules.specs.Moments.{no-moment, fire}
 use Rattle.rules.specs.Messages.{after}
-use Rattle.rules.specs.Numbers.{zeros, answer, tells, settles, notice, afterTelling, afterSettling, tellAnswer, settleAnswer}
+use Rattle.rules.specs.Numbers.{rubbish, zeros, answer, tells, settles, notice, afterTelling, afterSettling, tellAnswer, settleAnswer}
 use Rattle.rules.specs.declared.Answer.{Answer}
 use Rattle.rules.specs.declared.Notice.{Notice}
 use Rattle.rules.specs.declared.Stock.{Stock}
+use Rattle.rules.proofs.Passed.{told, settled}
+use Rattle.window.specs.Places.{laid}
 use Rattle.window.proofs.Laws as window
-use Rattle.stock.specs.View.{Bytes, bytes, view, lay, shaped, Outcome, telling, settling}
-use Rattle.stock.specs.Laws.{Left, ReadBack, ToldByTheRules, SettledByTheRules, ToldOne, SettledOne, ToldRefused, SettledRefused, Laws}
+use Rattle.window.proofs.Window.{length-trades}
+use Rattle.stock.proofs.Calls.{held-few, room, fired-few}
+use Rattle.stock.specs.View.{Bytes, bytes, view, lay, shaped, Outcome, telling, settling, reading}
+use Rattle.stock.specs.Laws.{Left, ReadBack, ToldByTheRules, SettledByTheRules, ToldOne, SettledOne, ToldRefused, SettledRefused, ToldInShape, SettledInShape, Laws}
 
 read-back : ReadBack
 read-back h b = simp (window.laws .read-back)
+
+-- ------------------------------------------------------------------ how many places there are
+
+length-laid : (n : ℕ) (front xs : List ℕ) → max n (length front) ≤ length xs → length (laid n front xs) ≡ length xs
+unfolding laid
+length-laid n front xs e = simp (length-append, length-replicate, length-drop) (omega arith)
+
+lay-shaped : (h : Whole) (b : Bytes) → shaped b ≡ true → b .kept .count ≤ 512 → length (h .window) ≤ 512 → shaped (lay h b) ≡ true
+unfolding shaped
+lay-shaped h b q c w = all-yes _ _ (as-long (λ t. t .at) (b .times) (eqb-true _ _ (all-head _ _ q)))
+    (all-yes _ _ (as-long (λ t. t .price) (b .prices) (eqb-true _ _ (all-head _ _ (all-tail _ _ q)))) all-empty)
+  where
+    as-long : (f : Trade → ℕ) (xs : List ℕ) → length xs ≡ 512 → eqb (length (laid (b .kept .count) (map f (h .window)) xs)) 512 ≡ true
+    as-long f xs e = eq-eqb _ _ (length-laid _ _ xs (max-le (omega arith) (simp length-map (omega arith))) ∙ e)
 
 -- ------------------------------------------------------------------ what any call comes to
 
@@ -52,14 +75,23 @@ module _ {A : Type 0} (b : Bytes) (h : Whole) (n : ℕ) (given one : A) (o : Out
           ap (λ (o : Outcome A). o .bytes) all ∙ simp (ne-eqb n 0 not-0, if-false)
       go false q = ap (λ (o : Outcome A). o .bytes) (gets-one q)
 
+  -- the places stay as many where there is room for what is laid
+  same-shape : (n ≡ 0 → (b .kept .count ≤ 512) × (length (h .window) ≤ 512)) → shaped (o .bytes) ≡ shaped b
+  same-shape room = go (shaped b) refl
+    where
+      go : (x : Bool) → shaped b ≡ x → shaped (o .bytes) ≡ shaped b
+      go true q = ap (λ (o : Outcome A). shaped (o .bytes)) (all-of-it q) ∙ if-arms (λ x. shaped x ≡ shaped b) (eqb n 0) {x = lay h b} {y = b}
+          (λ z. let r = room (eqb-true n 0 z) in lay-shaped h b q (r .0) (r .1) ∙ sym q) (λ _. refl)
+      go false q = ap (λ (o : Outcome A). shaped (o .bytes)) (gets-one q)
+
 -- ------------------------------------------------------------------ an answer bears its number
 
-answer-number : (n : ℕ) (s : Stock) → answer n s .number ≡ n
+pub answer-number : (n : ℕ) (s : Stock) → answer n s .number ≡ n
 unfolding answer
 answer-number n s = if-arms (λ a. a .number ≡ n) _ {x = zeros n}
     {y = record { number = n; state = stateOf s; reference = s .reference .price; bands = bandsIn s; best = bestOf s }} (λ _. refl) (λ _. refl)
 
-notice-number : (time : ℕ) (h : Whole) → settleAnswer time h .answer .number ≡ settles time h
+pub notice-number : (time : ℕ) (h : Whole) → settleAnswer time h .answer .number ≡ settles time h
 unfolding settleAnswer notice
 notice-number time h = if-arms (λ a. a .answer .number ≡ settles time h) _ {x = notice h}
     {y = record { answer = answer (settles time h) (h .stock); moment = no-moment }}
@@ -94,6 +126,21 @@ settled-refused time b r times prices e =
     unchanged b (fire (view b)) (settles time (view b)) _ (record { answer = zeros 1; moment = no-moment }) _ e (λ a. a .answer .number)
     (notice-number time (view b))
 
+-- what is held where a call is done
+held : (b : Bytes) → rubbish (view b) ≡ false → b .kept .count ≤ 512
+held b e = omega (arith, held-few (view b) e, length-trades (b .kept .count) (b .times) (b .prices))
+
+told-in-shape : ToldInShape
+unfolding telling
+told-in-shape m b r times prices e = same-shape b (after m (view b)) (tells m (view b)) (tellAnswer m (view b)) (zeros 1) _ e
+    (λ z. (held b (told m (view b) z .sound), room m (view b) z))
+
+settled-in-shape : SettledInShape
+unfolding settling
+settled-in-shape time b r times prices e =
+    same-shape b (fire (view b)) (settles time (view b)) (settleAnswer time (view b)) (record { answer = zeros 1; moment = no-moment }) _ e
+    (λ z. let sound = settled time (view b) z .sound in (held b sound, fired-few (view b) sound))
+
 pub laws : Laws
 laws = record {
   read-back = read-back;
@@ -103,8 +150,11 @@ laws = record {
   settled-one = settled-one;
   told-refused = told-refused;
   settled-refused = settled-refused;
+  told-in-shape = told-in-shape;
+  settled-in-shape = settled-in-shape;
   tell-determined = λ m b x y e f. ap (λ (o : Outcome Answer). left (record { answer = o .answer; next = o .bytes .kept }) o) (e ∙ sym f);
   settle-determined = λ time b x y e f. ap (λ (o : Outcome Notice). left (record { notice = o .answer; next = o .bytes .kept }) o) (e ∙ sym f);
+  read-determined = λ b. agree (reading b);
 }
   where
     left : {A R : Type 0} → R → Outcome A → Left R

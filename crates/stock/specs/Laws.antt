@@ -8,8 +8,9 @@ use Rattle.forms.specs.Promises.{Determines}
 use Rattle.rules.specs.Stock.{Whole}
 use Rattle.rules.specs.Moments.{no-moment}
 use Rattle.rules.specs.Numbers.{zeros, afterTelling, afterSettling, tellAnswer, settleAnswer}
+use Rattle.rules.specs.declared.Answer.{Answer}
 use Rattle.rules.specs.declared.Message.{Message}
-use Rattle.stock.specs.View.{Bytes, bytes, view, lay, shaped, Tells, Settles}
+use Rattle.stock.specs.View.{Bytes, bytes, view, lay, shaped, Tells, Settles, reading}
 use Rattle.stock.specs.declared.Told.{Told}
 use Rattle.stock.specs.declared.Settled.{Settled}
 
@@ -49,6 +50,15 @@ abbrev pub SettledRefused : Type 0
 SettledRefused = (time : ℕ) (b : Bytes) (r : Settled) (times prices : List ℕ) → Settles time b r times prices
     → (r .notice .answer .number ≡ 0 → ⊥) → bytes (r .next) times prices ≡ b
 
+-- no call changes how many places the parts have
+abbrev pub ToldInShape : Type 0
+ToldInShape = (m : Message) (b : Bytes) (r : Told) (times prices : List ℕ) → Tells m b r times prices
+    → shaped (bytes (r .next) times prices) ≡ shaped b
+
+abbrev pub SettledInShape : Type 0
+SettledInShape = (time : ℕ) (b : Bytes) (r : Settled) (times prices : List ℕ) → Settles time b r times prices
+    → shaped (bytes (r .next) times prices) ≡ shaped b
+
 pub record Laws : Type 0 where
   pub read-back : ReadBack
   pub told-by-the-rules : ToldByTheRules
@@ -57,6 +67,9 @@ pub record Laws : Type 0 where
   pub settled-one : SettledOne
   pub told-refused : ToldRefused
   pub settled-refused : SettledRefused
+  pub told-in-shape : ToldInShape
+  pub settled-in-shape : SettledInShape
   -- two results that a promise of src/lib.rt allows agree, in the answer, the next record and every place
   pub tell-determined : (m : Message) (b : Bytes) → Determines (λ (x : Left Told). Tells m b (x .result) (x .times) (x .prices))
   pub settle-determined : (time : ℕ) (b : Bytes) → Determines (λ (x : Left Settled). Settles time b (x .result) (x .times) (x .prices))
+  pub read-determined : (b : Bytes) → Determines (λ (r : Answer). r ≡ reading b)

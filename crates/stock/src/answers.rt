@@ -55,8 +55,10 @@ pub fn unsettled(number: u32, r: Record) -> Settled
     ensures { λ x. ⌜ x ≡ nothingDone number r ⌝ }
 {
     let s = r.stock;
-    let answer = answer_of(number, s);
     let moment = Moment { mark: 0, time: 0 };
-    let notice = Notice { answer, moment };
+    let notice = Notice {
+        answer: answer_of(number, s),
+        moment,
+    };
     Settled { notice, next: r }
 }

@@ -2,7 +2,8 @@
 // over its held trades first; a step is worked out without a place being written, and written at the end.
 // No public function has a `requires`: for any record, parts of any length and any numbers the promise gives
 // the answer, the next record and every place.
-ghost use Rattle.stock.specs.View.{bytes, Tells, Settles};
+ghost use mathlib.Core.Path.{_≡_};
+ghost use Rattle.stock.specs.View.{bytes, Tells, Settles, reading};
 use rules::Answer;
 use rules::Message;
 use rules::Notice;
@@ -74,5 +75,18 @@ impl Record {
             return Settled { notice, next };
         }
         answers::unsettled(number, self)
+    }
+
+    // Reads what the stock shows; nothing is changed.
+    pub fn read(self, times: &[u32], prices: &[u32]) -> Answer
+        ensures { λ r. ⌜ r ≡ reading (bytes self (now (times .entry)) (now (prices .entry))) ⌝ }
+    {
+        let s = self.stock;
+        let seen = sight::see(self, times, prices);
+        let sound = seen.sound;
+        if sound {
+            return answers::answer_of(0, s);
+        }
+        answers::answer_of(1, s)
     }
 }

@@ -5,8 +5,8 @@ use lib.Dec.{ltb, eqb}
 use Rattle.rules.specs.Numbers.{notPrice, badSetup}
 use Rattle.rules.specs.declared.Setup.{Setup}
 use Rattle.forms.proofs.Bools.{joined}
-use Rattle.judge.proofs.range.bad_setup.Statement.{statement}
-use Rattle.judge.proofs.range.bad_setup.Tie as tie
+use Rattle.judge.proofs.bad_setup.Statement.{statement}
+use Rattle.judge.proofs.bad_setup.Tie as tie
 
 bad-setup : (u : Setup) (close : Bool) → close ≡ notPrice (u .close)
     → (eqb (u .tier) 0 || ltb 2 (u .tier) || eqb (u .leverage) 0 || ltb 3 (u .leverage) || (eqb (u .tier) 1 && ltb 1 (u .leverage))

@@ -1,0 +1,195 @@
+-- What chains of calls come to: demand 2 of our calls, and demand 3 of every family that meets it.
+-- Assumes nothing.
+use Prim.Native.Nat.{ℕ, zero, suc, _+_, _*_, _≤_, _<_}
+use mathlib.Core.Bool.{Bool, true, false}
+use mathlib.Core.List.{List, [], _∷_, map, flatten}
+use mathlib.Core.Path.{_≡_, refl, sym, ap, _∙_, subst}
+use native.Mathlib.Nat.{mul-suc, not-suc-le-zero, le-of-suc-le-suc}
+use native.Mathlib.Omega.{arith}
+use borrow.Author.Tests.{ltb-false, eqb-true, eqb-false, eq-eqb}
+use lib.Dec.{ltb, eqb}
+use lib.Seq.{ext-getD}
+use lib.ListN.{length, getD, set, replicate, length-map, length-set, replicate-append-replicate}
+use Rattle.forms.specs.Choice.{if_then_else_}
+use Rattle.forms.specs.Checks.{first}
+use Rattle.forms.proofs.Choice.{if-true, if-false, if-arms, any-head, any-tail, eq-of-not}
+use Rattle.forms.proofs.Checks.{beyond}
+use Rattle.rules.specs.Stock.{Whole}
+use Rattle.rules.specs.Machine.{Every, On, Call, Calls, tell, settle, number, done, stock, numberIn, stepIn, run}
+use Rattle.rules.specs.Book.{machine, blank, book, Accepted}
+use Rattle.rules.specs.Numbers.{setsUp, badShape, fresh, setupChecks}
+use Rattle.rules.specs.declared.Answer.{Answer}
+use Rattle.rules.specs.declared.Message.{Message}
+use Rattle.rules.specs.declared.Notice.{Notice}
+use Rattle.rules.specs.declared.Setup.{Setup}
+use Rattle.rules.proofs.Demands.{demands}
+use Rattle.rules.proofs.Passed.{settled as passed-settling}
+use Rattle.stock.proofs.Calls.{room, fired-few}
+use Rattle.window.specs.Places.{laid}
+use Rattle.book.specs.Lent.{Lent, lent, Given}
+use Rattle.book.specs.Layout.{empty, stockBytes, layout}
+use Rattle.book.specs.Setup.{setupsOf, recordOf, setupNumber, numberOf, setting, SetsUp}
+use Rattle.book.specs.Demands.{Family, ours, Made, refused-setup, told, settled, Chain, calls, Answered, Demand2, Demand3}
+use Rattle.book.proofs.Laws.{laws}
+use Rattle.book.proofs.Layouts.{Fits}
+use Rattle.book.proofs.Follows.{tell-follows, settle-follows}
+
+-- ------------------------------------------------------------------ the book that a setup starts
+
+fresh-records : (end : ℕ) (us : List Setup) → map (λ h. stockBytes h .kept) (book end us) ≡ map (recordOf end) us
+unfolding fresh
+fresh-records end [] = refl
+fresh-records end (u ∷ us) = ap (λ r. recordOf end u ∷ r) (fresh-records end us)
+
+-- the places of stocks that hold no trade are 0
+fresh-places : (end : ℕ) (f : Whole → List ℕ) → ((u : Setup) → f (fresh end u) ≡ empty) → (us : List Setup)
+    → flatten (map f (book end us)) ≡ replicate (512 * length us) 0
+unfolding flatten
+fresh-places end f z [] = refl
+fresh-places end f z (u ∷ us) =
+    let e : 512 * length (u ∷ us) ≡ 512 + 512 * length us = omega (arith, mul-suc 512 (length us)) in
+    rw (z u, fresh-places end f z us, e) (replicate-append-replicate 512 (512 * length us) 0)
+
+fresh-layout : (end : ℕ) (us : List Setup) → layout (book end us) ≡ lent (map (recordOf end) us) (replicate (512 * length us) 0) (replicate (512 * length us) 0)
+unfolding laid fresh
+fresh-layout end us =
+    rw (fresh-records end us, fresh-places end (λ h. stockBytes h .times) (λ u. refl) us, fresh-places end (λ h. stockBytes h .prices) (λ u. refl) us)
+
+fresh-fits : (end : ℕ) (us : List Setup) → Every Fits (book end us)
+unfolding fresh
+fresh-fits end [] = tt
+fresh-fits end (u ∷ us) = (omega arith, fresh-fits end us)
+
+-- ------------------------------------------------------------------ a step keeps windows that fit
+
+pub every-at : (hs : List Whole) (d : Whole) → Every Fits hs → (i : ℕ) → i < length hs → Fits (getD hs i d)
+every-at [] d a i l = absurd (not-suc-le-zero l)
+every-at (h ∷ hs) d a zero l = a .0
+every-at (h ∷ hs) d a (suc i) l = every-at hs d (a .1) i (le-of-suc-le-suc l)
+
+every-set : (hs : List Whole) → Every Fits hs → (i : ℕ) (h : Whole) → Fits h → Every Fits (set hs i h)
+every-set [] a i h f = a
+every-set (x ∷ hs) a zero h f = (f, a .1)
+every-set (x ∷ hs) a (suc i) h f = (a .0, every-set hs (a .1) i h f)
+
+module _ (end : ℕ) (hs : List Whole) (c : On (Call Message)) where
+  step-fits : (numberIn machine (blank end) hs c ≡ 0 → Fits (done machine (c .it) (stock machine (blank end) hs (c .at)))) → Every Fits hs
+      → Every Fits (stepIn machine (blank end) hs c)
+  unfolding stepIn
+  step-fits f a = if-arms (Every Fits) (eqb (numberIn machine (blank end) hs c) 0) (λ q. every-set hs a (c .at) _ (f (eqb-true _ _ q))) (λ _. a)
+
+  step-length : length (stepIn machine (blank end) hs c) ≡ length hs
+  unfolding stepIn
+  step-length = if-arms (λ (bs : List Whole). length bs ≡ length hs) (eqb (numberIn machine (blank end) hs c) 0)
+      {x = set hs (c .at) (done machine (c .it) (stock machine (blank end) hs (c .at)))} {y = hs} (λ _. length-set hs (c .at) _) (λ _. refl)
+
+-- the stock that a done call names is there
+there : (end : ℕ) (hs : List Whole) (i n : ℕ) → (if ltb i (length hs) then n else 3) ≡ 0 → n ≡ 0
+there end hs i n e = go (ltb i (length hs)) refl
+  where
+    go : (b : Bool) → ltb i (length hs) ≡ b → n ≡ 0
+    go true q = simp (q, if-true) at e
+    go false q = let z : _≡_ {A = ℕ} 3 0 = simp (q, if-false) at e in absurd (omega arith)
+
+-- ------------------------------------------------------------------ calls after a setup
+
+-- the calls of a chain from the layout of a book of the rules
+abbrev Follow : ℕ → List Whole → List Made → Lent → Type 0
+Follow end hs cs b′ = Answered end hs cs × (b′ ≡ layout (run machine (blank end) hs (calls cs)))
+
+follows : (end : ℕ) (hs : List Whole) → Every Fits hs → 1 ≤ length hs → length hs ≤ 64 → (cs : List Made) (b′ : Lent) → Chain ours (layout hs) cs b′
+    → Follow end hs cs b′
+unfolding numberIn
+follows end hs a s f [] b′ k = (tt, sym k)
+follows end hs a s f (refused-setup e list r ∷ cs) b′ k =
+    follows end hs a s f cs b′ (subst (λ x. Chain ours x cs b′) (laws .set-up-refused e list (layout hs) (k .0) r (k .1) (k .2)) (k .3))
+follows end hs a s f (told i m r ∷ cs) b′ k =
+    let c : On (Call Message) = record { at = i; it = tell m } in
+    let all = k .1 ∙ tell-follows end hs a s f i m (λ l z. room m _ z) (every-at hs (blank end) a i) in
+    let fit = step-fits end hs c (λ z. room m _ (there end hs i _ z)) a in
+    let long = step-length end hs c in
+    let rest = follows end (stepIn machine (blank end) hs c) fit (omega arith) (omega arith) cs b′
+    (subst (λ x. Chain ours x cs b′) (ap (λ (o : Given Answer). o .book) all) (k .2)) in
+    ((ap (λ (o : Given Answer). o .answer) all, rest .0), rest .1)
+follows end hs a s f (settled i time r ∷ cs) b′ k =
+    let c : On (Call Message) = record { at = i; it = settle time } in
+    let all = k .1 ∙ settle-follows end hs a s f i time (λ l z. fired-few _ (passed-settling time _ z .sound)) (every-at hs (blank end) a i) in
+    let fit = step-fits end hs c (λ z. fired-few _ (passed-settling time _ (there end hs i _ z) .sound)) a in
+    let long = step-length end hs c in
+    let rest = follows end (stepIn machine (blank end) hs c) fit (omega arith) (omega arith) cs b′
+    (subst (λ x. Chain ours x cs b′) (ap (λ (o : Given Notice). o .book) all) (k .2)) in
+    ((ap (λ (o : Given Notice). o .answer) all, rest .0), rest .1)
+
+-- ------------------------------------------------------------------ an accepted setup
+
+-- what it needs: a setup per stock, and the shape
+pub record Started (end : ℕ) (list : List ℕ) (b₀ b : Lent) : Type 0 where
+  pub some : 1 ≤ length (setupsOf list)
+  pub few : length (setupsOf list) ≤ 64
+  pub starts : b ≡ layout (book end (setupsOf list))
+  pub accepted : Accepted end (setupsOf list)
+
+pub started : (end : ℕ) (list : List ℕ) (b₀ b : Lent) (a : Answer) → SetsUp end list b₀ a b → a .number ≡ 0 → Started end list b₀ b
+unfolding setting setupNumber setupChecks badShape setsUp
+started end list b₀ b a e z =
+    let n : numberOf end list b₀ ≡ 0 = sym (ap (λ (o : Given Answer). o .answer .number) e) ∙ z in
+    let one = beyond 0 _ 1 _ tt n in
+    let two = beyond 0 _ 1 _ tt (one .1) in
+    let shape = any-head _ _ (two .0) in
+    let us : length (setupsOf list) ≡ length (b₀ .records) = eq-of-not _ _ (any-head _ _ (any-tail _ _ (two .0))) in
+    let not-none = eqb-false (length (b₀ .records)) 0 (any-head _ _ shape) in
+    let few = ltb-false 64 (length (b₀ .records)) (any-head _ _ (any-tail _ _ shape)) in
+    let times : length (b₀ .times) ≡ 512 * length (b₀ .records) = eq-of-not _ _ (any-head _ _ (any-tail _ _ (any-tail _ _ shape))) in
+    let prices : length (b₀ .prices) ≡ 512 * length (b₀ .records) = eq-of-not _ _ (any-head _ _ (any-tail _ _ (any-tail _ _ (any-tail _ _ shape)))) in
+    let is : b ≡ lent (map (recordOf end) (setupsOf list)) (replicate (length (b₀ .times)) 0) (replicate (length (b₀ .prices)) 0) =
+    ap (λ (o : Given Answer). o .book) e ∙ simp (n, eq-eqb 0 0 refl, if-true) in
+    record {
+      some = omega arith;
+      few = omega arith;
+      starts = is ∙ simp (times, prices, ← us) (sym (fresh-layout end (setupsOf list)));
+      accepted = subst (λ n. first (setupChecks n (512 * n) (512 * n) end (setupsOf list)) ≡ 0) (sym us) (rw (times, prices) at (one .1));
+    }
+
+-- ------------------------------------------------------------------ demand 2
+
+pub demand2 : Demand2 ours
+demand2 = record {
+  setup-refused = laws .set-up-refused;
+  setup-number = laws .set-up-by-the-rules;
+  from-setup = λ end list b₀ b b′ a cs e z k.
+      let s = started end list b₀ b a e z in
+      follows end (book end (setupsOf list)) (fresh-fits end (setupsOf list)) (simp length-map (s .some)) (simp length-map (s .few)) cs b′
+      (subst (λ x. Chain ours x cs b′) (s .starts) k);
+}
+
+-- ------------------------------------------------------------------ demand 3, of every family that meets demand 2
+
+pub run-length : (end : ℕ) (hs : List Whole) (cs : Calls machine) → length (run machine (blank end) hs cs) ≡ length hs
+run-length end hs [] = refl
+run-length end hs (c ∷ cs) = run-length end (stepIn machine (blank end) hs c) cs ∙ step-length end hs c
+
+-- what is done to a stock leaves a window that fits
+call-fits : (it : Call Message) (h : Whole) → number machine it h ≡ 0 → Fits (done machine it h)
+call-fits (tell m) h z = room m h z
+call-fits (settle time) h z = fired-few h (passed-settling time h z .sound)
+
+-- whatever the calls, every window fits
+run-fits : (end : ℕ) (hs : List Whole) (cs : Calls machine) → Every Fits hs → Every Fits (run machine (blank end) hs cs)
+unfolding numberIn
+run-fits end hs [] a = a
+run-fits end hs (c ∷ cs) a =
+    run-fits end (stepIn machine (blank end) hs c) cs (step-fits end hs c (λ z. call-fits (c .it) _ (there end hs (c .at) _ z)) a)
+
+pub all-fit : (end : ℕ) (us : List Setup) (cs : Calls machine) → Every Fits (run machine (blank end) (book end us) cs)
+all-fit end us cs = run-fits end (book end us) cs (fresh-fits end us)
+
+pub alike : (𝓕 : Family) → Demand2 𝓕 → Demand3 𝓕
+alike 𝓕 d end time list b₀ b b′ c₀ c c′ a e cs ds p p0 pk q q0 qk ps qs same =
+    let us = setupsOf list in
+    let left = run machine (blank end) (book end us) (calls cs) in
+    let right = run machine (blank end) (book end us) (calls ds) in
+    let each = demands .settled-alike end us (calls cs) (calls ds) time ps qs same in
+    let long : (xs : Calls machine) → length (run machine (blank end) (book end us) xs) ≡ length us =
+    λ xs. run-length end (book end us) xs ∙ length-map us (fresh end) in
+    let books : left ≡ right = ext-getD (blank end) left right (long (calls cs) ∙ sym (long (calls ds))) (λ i l. each i (omega (arith, long (calls cs))) .0) in
+    (d .from-setup end list b₀ b b′ a cs p p0 pk .1 ∙ ap layout books ∙ sym (d .from-setup end list c₀ c c′ e ds q q0 qk .1), λ i l. each i l .1)

@@ -1,0 +1,15 @@
+pub mod Parts
+pub mod Called
+pub mod Guarded
+pub mod Walking
+pub mod Setups
+pub mod SettingUp
+pub mod Laws
+pub mod Rows
+pub mod Layouts
+pub mod Follows
+pub mod Chains
+pub mod Wrong
+pub mod After
+pub mod OneStock
+pub mod Demands

@@ -1,0 +1,123 @@
+-- What the bytes of a book obey under calls. Each field is a theorem: `laws` of proofs/Laws.antt proves the record.
+-- Assumes nothing.
+use Prim.Native.Nat.{ℕ, _+_, _*_, _≤_, _<_}
+use mathlib.Core.Bool.{true}
+use mathlib.Core.List.{List}
+use mathlib.Core.Path.{_≡_}
+use lib.ListN.{length, getD}
+use Rattle.forms.specs.Promises.{Determines}
+use Rattle.rules.specs.Book.{blank, book}
+use Rattle.rules.specs.Numbers.{zeros, setupAnswer}
+use Rattle.rules.specs.declared.Answer.{Answer}
+use Rattle.rules.specs.declared.Message.{Message}
+use Rattle.rules.specs.declared.Notice.{Notice}
+use Rattle.stock.specs.View.{Bytes, view, shaped, Outcome, telling, settling}
+use Rattle.book.specs.Setup.{setupsOf, SetsUp}
+use Rattle.book.specs.Lent.{Lent, part, put, bytesOf, withBytes, Given, callNumber, calling, TellsIn, SettlesIn, readingIn}
+
+-- ------------------------------------------------------------------ the parts of an array
+
+-- a part of 512 places that is put where there is room for it
+pub record Fits (i : ℕ) (new xs : List ℕ) : Type 0 where
+  pub places : length new ≡ 512
+  pub room : 512 * i + 512 ≤ length xs
+
+-- it is read there again, and every other stock's part is as it was
+abbrev pub PartPut : Type 0
+PartPut = (i : ℕ) (new xs : List ℕ) → Fits i new xs → part i (put i new xs) ≡ new
+
+abbrev pub PartPutOther : Type 0
+PartPutOther = (i : ℕ) (new xs : List ℕ) → Fits i new xs → (j : ℕ) → (j ≡ i → ⊥) → part j (put i new xs) ≡ part j xs
+
+-- ------------------------------------------------------------------ the bytes of a stock
+
+-- the book has stock i, with its places
+pub record Has (i : ℕ) (b : Lent) : Type 0 where
+  pub kept : i < length (b .records)
+  pub times : 512 * i + 512 ≤ length (b .times)
+  pub prices : 512 * i + 512 ≤ length (b .prices)
+
+-- a stock that the first checks let through is one that the book has
+abbrev pub LetThrough : Type 0
+LetThrough = (i : ℕ) (b : Lent) → callNumber i b ≡ 0 → Has i b
+
+-- bytes that are written for a stock are read again, and those of every other stock are as they were
+abbrev pub BytesWritten : Type 0
+BytesWritten = (i : ℕ) (x : Bytes) (b : Lent) → shaped x ≡ true → Has i b → bytesOf i (withBytes i x b) ≡ x
+
+abbrev pub BytesOfOthers : Type 0
+BytesOfOthers = (i : ℕ) (x : Bytes) (b : Lent) → shaped x ≡ true → Has i b → (j : ℕ) → (j ≡ i → ⊥) → bytesOf j (withBytes i x b) ≡ bytesOf j b
+
+-- ------------------------------------------------------------------ calls
+
+-- a step that leaves its stock's bytes leaves the book
+abbrev pub CallLeaves : Type 1
+CallLeaves = (A : Type 0) (i : ℕ) (step : Bytes → Outcome A) (beside : ℕ → A) (b : Lent)
+    → (callNumber i b ≡ 0 → step (bytesOf i b) .bytes ≡ bytesOf i b) → calling i step beside b .book ≡ b
+
+-- every number but 0 leaves every byte as it stood
+abbrev pub ToldRefused : Type 0
+ToldRefused = (i : ℕ) (m : Message) (b : Lent) (r : Answer) (b′ : Lent) → TellsIn i m b r b′ → (r .number ≡ 0 → ⊥) → b′ ≡ b
+
+abbrev pub SettledRefused : Type 0
+SettledRefused = (i time : ℕ) (b : Lent) (r : Notice) (b′ : Lent) → SettlesIn i time b r b′ → (r .answer .number ≡ 0 → ⊥) → b′ ≡ b
+
+-- what a call on stock i leaves: its own bytes as its step leaves them, every other stock's as they were, and as many records and places
+pub record Touched (i : ℕ) (next : Bytes) (b b′ : Lent) : Type 0 where
+  pub own : callNumber i b ≡ 0 → bytesOf i b′ ≡ next
+  pub others : (j : ℕ) → (j ≡ i → ⊥) → bytesOf j b′ ≡ bytesOf j b
+  pub numbers : (j : ℕ) → callNumber j b′ ≡ callNumber j b
+
+abbrev pub ToldTouches : Type 0
+ToldTouches = (i : ℕ) (m : Message) (b : Lent) (r : Answer) (b′ : Lent) → TellsIn i m b r b′
+    → Touched i (telling m (bytesOf i b) .bytes) b b′
+
+abbrev pub SettledTouches : Type 0
+SettledTouches = (i time : ℕ) (b : Lent) (r : Notice) (b′ : Lent) → SettlesIn i time b r b′
+    → Touched i (settling time (bytesOf i b) .bytes) b b′
+
+-- ------------------------------------------------------------------ setup
+
+-- of a list that has four numbers for each setup: the rules' answer
+abbrev pub SetUpByTheRules : Type 0
+SetUpByTheRules = (end : ℕ) (list : List ℕ) (b b′ : Lent) (r : Answer) → SetsUp end list b r b′ → length list ≡ 4 * length (setupsOf list)
+    → r ≡ setupAnswer (length (b .records)) (length (b .times)) (length (b .prices)) end (setupsOf list)
+
+-- of another list: 1 with zeros beside it
+abbrev pub SetUpOne : Type 0
+SetUpOne = (end : ℕ) (list : List ℕ) (b b′ : Lent) (r : Answer) → SetsUp end list b r b′ → (length list ≡ 4 * length (setupsOf list) → ⊥) → r ≡ zeros 1
+
+-- where it is done, the bytes mean the book that the setup starts
+abbrev pub SetUpStarts : Type 0
+SetUpStarts = (end : ℕ) (list : List ℕ) (b b′ : Lent) (r : Answer) → SetsUp end list b r b′ → r .number ≡ 0
+    → (length (b′ .records) ≡ length (b .records))
+    × ((i : ℕ) → i < length (b .records) → view (bytesOf i b′) ≡ getD (book end (setupsOf list)) i (blank end))
+
+-- every number but 0 leaves every byte as it stood
+abbrev pub SetUpRefused : Type 0
+SetUpRefused = (end : ℕ) (list : List ℕ) (b b′ : Lent) (r : Answer) → SetsUp end list b r b′ → (r .number ≡ 0 → ⊥) → b′ ≡ b
+
+-- ------------------------------------------------------------------ all of them
+
+pub record Laws : Type 1 where
+  pub part-put : PartPut
+  pub part-put-other : PartPutOther
+  pub put-part : (i : ℕ) (xs : List ℕ) → put i (part i xs) xs ≡ xs
+  pub length-put : (i : ℕ) (new xs : List ℕ) → Fits i new xs → length (put i new xs) ≡ length xs
+  pub let-through : LetThrough
+  pub bytes-written : BytesWritten
+  pub bytes-of-others : BytesOfOthers
+  pub call-leaves : CallLeaves
+  pub told-refused : ToldRefused
+  pub settled-refused : SettledRefused
+  pub told-touches : ToldTouches
+  pub settled-touches : SettledTouches
+  pub set-up-by-the-rules : SetUpByTheRules
+  pub set-up-one : SetUpOne
+  pub set-up-starts : SetUpStarts
+  pub set-up-refused : SetUpRefused
+  -- two results that a promise allows agree, in the answer and in every byte of the book
+  pub tell-determined : (i : ℕ) (m : Message) (b : Lent) → Determines (λ (x : Given Answer). TellsIn i m b (x .answer) (x .book))
+  pub settle-determined : (i time : ℕ) (b : Lent) → Determines (λ (x : Given Notice). SettlesIn i time b (x .answer) (x .book))
+  pub read-determined : (i : ℕ) (b : Lent) → Determines (λ (r : Answer). r ≡ readingIn i b)
+  pub setup-determined : (end : ℕ) (list : List ℕ) (b : Lent) → Determines (λ (x : Given Answer). SetsUp end list b (x .answer) (x .book))

@@ -1,0 +1,5 @@
+pub mod Lent
+pub mod Setup
+pub mod Layout
+pub mod Laws
+pub mod Demands

@@ -1,0 +1,336 @@
+#!/usr/bin/env python3
+"""Writes the walks of the functions that are lent a record: crates/book/proofs/FUNCTION/Proof.antt.
+
+    tell_one, settle_one    `&mut Record`      one.tpl
+    tell, settle            `&mut [Record]`    book.tpl
+    read                    `&[Record]`        read.tpl
+
+A template has what is said of a function beside its MIR; head.tpl has the `use` lines of all, of which a proof keeps those
+that it needs. The steps through the MIR are worked out here, over a context by name (ctx.py): a local's name is its number
+in the MIR. Where a body in crates/book/src/lib.rt changes, `rt mir book` shows the MIR that the steps must follow.
+"""
+import re
+from pathlib import Path
+
+from ctx import Walk, sub
+
+HERE = Path(__file__).resolve().parent
+PROOFS = HERE.parents[1] / "crates" / "book" / "proofs"
+
+LAWS = "T.the-row (Is T.the-row) (shows 𝓤 H A T.the-row) (LL.vals T.the-type T′.the-laws) (LL.tells T.the-type T′.the-laws)"
+INSIDE = "(inside i n was c good .record-of)"
+BOOK_LENT = ["obs", "borrow", "token", "tokens"]
+
+
+def number_typed(fits):
+    return f"(tt, record {{ fits = {fits} }})"
+
+
+def slice_typed(room):
+    return f"(tt, (tt, (record {{ fits = {room} .0 }}, tt)))"
+
+
+def struct_typed(row, value, known):
+    return f"(LL.lawful {row}.the-type {row}′.the-laws 𝓤 H A W .typed {value} _ {known} .0)"
+
+
+# ---------------------------------------------------------------- entering
+
+
+def apart(w, own0):
+    """the tokens and the parameters apart, the first one opened to what it is made of"""
+    w.split("token", "tokens")
+    w.front("owns")
+    w.fsplit("own0", "owns")
+    own0(w)
+    for k in (1, 2):
+        w.front("owns")
+        w.fsplit(f"own{k}", "owns")
+    w.front("owns")
+    w.drop()
+    w.order(BOOK_LENT + ["own1", "own2"])
+    w.note()
+
+
+def reference(w):
+    w.add("fsplit3 ! $")
+    w.put(1, "at", "obs", "borrow")
+    w.drop()
+
+
+def slice_(w):
+    w.fsplit("at", "own0")
+    w.drop()
+    w.fsplit("obs", "borrow")
+
+
+def enter(w, values, locals_, typings):
+    """a place for each local, and the arguments in the first ones"""
+    w.add(f"enter ! C Λ code.function ({' ∷ '.join(values)} ∷ []) _ $")
+    w.alloc(locals_)
+    for k, typing in enumerate(typings):
+        w.passes(k + 1, typing)
+    w.add("pass0 ! $")
+
+
+# ---------------------------------------------------------------- calls
+
+
+def call(w, contract, known, ghost, opds, v, given, ensured):
+    """the call is made; then what it gave and what it ensures are in front"""
+    w.lam(f"calls-at ! fm ({contract} 𝓤 H A at-mem run) {known} {ghost} {w.opds(*[w.load(o) for o in opds])} (λ {v}.")
+    value, type_, tokens, row = given
+    w.use(1, ["post"], f"later (some (λ ({value} : {type_}). ({tokens} ⊛ ‵ ({row} .own {value} ({v} ∷ []))) ⊛ raw (ensured 𝓤 H A {ensured} tt {value})))", "id⊢ 𝓤 _")
+    w.add("await ! tt $")
+    w.lam(f"pick ! (λ {value}.")
+    w.split("result", "ensured")
+    w.front("ensured")
+
+
+def heard(w, fact, said, e, tokens):
+    """what a callee that changes nothing ensures is known as e; its result is in front"""
+    w.use(1, ["fact"], f"raw (fact 𝓤 ({fact}))", said)
+    w.lam(f"heard ! ({fact}) (λ {e}.")
+    w.put(1)
+    w.split(tokens, "given")
+    if tokens == "true":
+        w.drop()
+    w.front("given")
+
+
+def seen(w, row, value, v, known):
+    """what its type tells of a result in front, which is let go"""
+    w.lam(f"peeks ! {row} (Is {row}) (shows 𝓤 H A {row}) {value} ({v} ∷ []) (λ {known}.")
+    w.drop()
+
+
+def heard_lasts(w, fact, e):
+    """what a callee that was lent the arrays ensures of their last lists"""
+    fact = f"{fact} r (zs .1 .0) (zs .1 .1 .0)"
+    w.use(1, ["ensured"], f"some (λ (zs : Ends). ‵ (lasts g.ended (κ₁, (κ₂, tt)) x′ zs) ⊛ raw (fact 𝓤 ({fact})))", "id⊢ 𝓤 _")
+    w.lam("pick ! (λ zs.")
+    w.split("lasts", "fact")
+    w.front("fact")
+    w.lam(f"heard ! ({fact}) (λ {e}.")
+    w.put(1)
+    w.fsplit("last0", "lasts")
+    w.drop()
+    for k in (1, 2):
+        w.fsplit(f"last{k}", "lasts")
+        w.fsplit(f"final{k}", "length")
+        w.front("length")
+        w.lam(f"feqL ! (λ {e}{sub(k)}.")
+        w.put(1)
+        w.front("lasts")
+    w.drop()
+    w.front("result")
+    w.split("tokens", "given")
+    w.front("given")
+
+
+def step(w, p, goes, d, opds):
+    """the step is called on the copy, the arrays lent on for good; what it made is in the local d"""
+    w.front("tokens", "own1", "own2")
+    w.use(3, ["pre"], "raw (Step 𝓤 H A at-mem run .pre to-step)", goes)
+    call(w, "Step", "known", "to-step", opds, "v", ("r", p["Made"], "tokens", "D.the-row"), "g.ended (g.clauses 𝓤 H A at-mem run) (κ₁, (κ₂, tt)) x′")
+    heard_lasts(w, p["promise"], "e")
+    seen(w, "D.the-row", "r", "v", "is")
+    w.land(d, struct_typed("D", "r", "is"))
+    w.rewrite(d, f"λ (u : Val). ‵ (fat fullShare D′.mir l{sub(d[1:])} 0 u)", "ap only (LL.tells D.the-type D′.the-laws r (v ∷ []) is)")
+    w.note()
+
+
+def guard(w, p, at, number, lengths, flag, refused):
+    """let i = stock as usize; let number = call_number(book.len(), times.len(), prices.len(), i); if number != 0 { return REFUSE(number); }"""
+    w.set(at, f"un ! {w.load('_4')} (record {{ fits = i-wide .1 }})", number_typed("i-wide .1"))
+    for k, length in enumerate(lengths):
+        w.set(length, f"of-opd ! {w.load(f'_{k + 1}', 1)}", number_typed(f"room{sub(k)} .0"))
+    w.use(0, ["pre"], "raw (Number 𝓤 H A at-mem run .pre to-number)", "goes-number")
+    call(w, "Number", "known-number", "to-number", [*lengths, at], "u", ("n", "ℕ", "‵ ftrue", "u32"), "nb.ended (nb.clauses 𝓤 H A at-mem run) tt xn")
+    heard(w, "n ≡ callNumber i was", "said-number n", "c", "true")
+    seen(w, "u32", "n", "u", "n-is")
+    w.land(number, "(uint-lawful 𝓤 H A W w32 .typed n _ n-is .0)")
+    w.rewrite(number, f"λ (z : Val). ‵ (fat fullShare (tyInt w32) l{sub(number[1:])} 0 z)", "ap only (n-is .0)")
+    w.set(flag, f"bin ! {w.load(number)} (lit ! tt) tt", "(tt, tt)")
+    w.note()
+    w.add(f"guarded ! {w.load(flag)}")
+    arm = w.fork()
+    arm.lam("(λ bad.")
+    arm.use(0, ["pre"], "raw (No 𝓤 H A at-mem run .pre (to-no n))", "goes-no n (refl, n-is .1)")
+    call(arm, "No", "known-no", "(to-no n)", [number], "v", ("r", p["Answer"], "‵ ftrue", "N.the-row"), "no.ended (no.clauses 𝓤 H A at-mem run) tt (n, tt)")
+    heard(arm, f"r ≡ {p['zeros']} n", "said-no n r", "z", "true")
+    seen(arm, "N.the-row", "r", "v", "is")
+    arm.land("_0", struct_typed("N", "r", "is"))
+    arm.returns(*BOOK_LENT, "own1", "own2", within=True)
+    arm.add(f"by ! ({refused})" + ")" * arm.close)
+    w.o += arm.o
+    w.lam("(λ good.")
+
+
+# ---------------------------------------------------------------- the record
+
+
+def place(w, at, offset, pointer):
+    """where record i stands"""
+    fits = f"element-fits (length ys) (mem T.the-row .size) i (room₀ .1) {INSIDE}"
+    w.set(offset, f"bin ! {w.load(at)} (lit ! tt) (record {{ fits = {fits} }})", number_typed(fits))
+    w.set(pointer, f"bin ! {w.load('_1', 0)} {w.load(offset)} tt", "(tt, tt)")
+    w.rewrite(pointer, f"λ (k : ℕ). ‵ (fat fullShare tyPtr l{sub(pointer[1:])} 0 (vptr b k))", "sym (place-is (mem T.the-row .size) o i)")
+
+
+def copy_out(w, pointer, copy, value, known):
+    w.set(copy, f"of-opd ! (load ! (from ! (hop ! (look ! {w.at(pointer)} refl) (stop !))) (look-raw ! {w.at('cell')} refl))", struct_typed("T", value, known))
+
+
+def lend_arrays(w, times, prices):
+    """the two arrays are borrowed anew, as they are lent on"""
+    for k, (pointer, array) in enumerate((times, prices)):
+        w.set(pointer, w.addr_in(f"_{k + 2}"), "(tt, tt)")
+        w.set(array, w.agg(w.load(pointer), w.load(f"_{k + 2}", 1)), slice_typed(f"room{sub(k + 1)}"))
+
+
+def store_back(w, p, d, pointer):
+    """*pointer = d.next; d.ANSWER"""
+    w.add(f"assigns ! (of-opd ! {w.load(d, 1)}) (from ! (hop ! (look ! {w.at(pointer)} refl) (stop !))) (store-raw ! {w.at('cell')} refl {struct_typed('T', '(r .next)', '(is-next r v is)')}) $")
+    w.set("_0", f"of-opd ! {w.load(d, 0)}", struct_typed("N", f"(r .{p['answer']})", "(is-answer r v is)"))
+    w.add("owned ! T.the-row (Is T.the-row) (LL.makes T.the-type T′.the-plain 𝓤 H A) (r .next) _ (is-next r v is) $")
+    w.put(0, "own")
+
+
+def leave(w, exits):
+    w.returns(*BOOK_LENT, "final1", "final2")
+    w.add(f"by ! ({exits} r v (zs .1 .0) (zs .1 .1 .0) is e e₁ e₂)" + ")" * w.close)
+
+
+# ---------------------------------------------------------------- the shapes
+
+
+def one(p):
+    """let d = STEP(*r, times, prices, v); *r = d.next; d.ANSWER"""
+    w = Walk(["toks", "owns"])
+    apart(w, reference)
+    enter(w, ["vptr b o", "s₁", "s₂", p["val"]], 11, ["(tt, tt)", slice_typed("room₁"), slice_typed("room₂"), p["typed"]])
+    w.front("obs", "borrow", "token")
+    w.lam(f"opens ! tt T.the-row {{h = h}} b o (λ vs. spelt ! {LAWS} fullShare h vs b o $")
+    w.put(3, "cell", "own", "open", "obs", "auth")
+    w.front("own")
+    seen(w, "T.the-row", "h", "valT h", "was")
+    w.note()
+    copy_out(w, "_1", "_6", "h", "was")
+    lend_arrays(w, ("_7", "_8"), ("_9", "_10"))
+    step(w, p, "goes-step was", "_5", ["_6", "_8", "_10", "_4"])
+    store_back(w, p, "_5", "_1")
+    w.front("cell", "own", "open", "obs", "auth")
+    w.add("closes ! tt T.the-row (r .next) (valT (r .next) ∷ []) b o $")
+    w.put(5, "obs", "borrow", "token")
+    leave(w, "exits")
+    return w
+
+
+def book(p):
+    """GUARD let d = STEP(book[i], times, prices, i, v); book[i] = d.next; d.ANSWER"""
+    w = Walk(["toks", "owns"])
+    apart(w, slice_)
+    enter(w, ["s₀", "s₁", "s₂", "vint w32 i", p["val"]], 20, [slice_typed(f"room{sub(k)}") for k in range(3)] + [number_typed("i-is .1"), p["typed"]])
+    guard(w, p, "_6", "_7", ["_9", "_10", "_11"], "_12", "refuses n r v is c bad z")
+    w.front("obs", "borrow", "token")
+    w.lam(f"opens-slice ! tt T.the-row ys b o $ elem-out ! {LAWS} fullShare ys i noRecord b o {INSIDE} (λ is-one.")
+    w.put(3, "cell", "own", "others", "open", "obs", "auth")
+    w.front("own")
+    w.drop()
+    w.note()
+    place(w, "_6", "_9", "_13")
+    copy_out(w, "_13", "_14", "one", "is-one")
+    lend_arrays(w, ("_15", "_16"), ("_17", "_18"))
+    step(w, p, "goes-step is-one (inside i n was c good)", "_8", ["_14", "_16", "_18", "_6", "_5"])
+    place(w, "_6", "_10", "_19")
+    store_back(w, p, "_8", "_19")
+    w.front("cell", "own", "others", "open", "obs", "auth")
+    w.add(f"elem-put ! T.the-row fullShare ys i (r .next) (valT (r .next) ∷ []) b o {INSIDE} $ closes-slice ! tt T.the-row ys (set ys i (r .next)) (length-set ys i (r .next)) b o $")
+    w.put(6, "obs", "borrow", "token")
+    leave(w, "exits n c good")
+    return w
+
+
+def read(p):
+    """GUARD read_at(book[i], times, prices, i)"""
+    w = Walk(["toks", "owns"])
+    apart(w, slice_)
+    enter(w, ["s₀", "s₁", "s₂", "vint w32 i"], 13, [slice_typed(f"room{sub(k)}") for k in range(3)] + [number_typed("i-is .1")])
+    guard(w, p, "_5", "_6", ["_7", "_8", "_9"], "_10", "exits r v is (unread-in i n was r c bad z)")
+    w.front("borrow", "token")
+    w.lam(f"looks-slice ! tt {LAWS} (LL.copy T.the-type T′.the-copy 𝓤 H A W) ys b o (λ q′. elem-out ! {LAWS} q′ ys i noRecord b o {INSIDE} (λ is-one.")
+    w.put(2, "cell", "own", "others", "open", "borrow")
+    w.note()
+    place(w, "_5", "_7", "_11")
+    copy_out(w, "_11", "_12", "one", "is-one")
+    w.add(f"elem-back ! T.the-row q′ ys i noRecord (valT one ∷ []) b o {INSIDE} $ shuts-slice ! tt T.the-row q′ ys b o $")
+    w.put(4, "token")
+    for k in (1, 2):
+        s = sub(k)
+        w.front(f"own{k}")
+        w.use(1, ["both"], f"own{s} ⊛ own{s}", f"shr-slice-copy 𝓤 H A W (named 0) κ{s} u32 .twice x{s} (s{s} ∷ [])")
+        w.split(f"own{k}", f"lent{k}")
+    w.front("tokens", "lent1", "lent2")
+    w.use(3, ["pre"], "raw (Step 𝓤 H A at-mem run .pre to-step)", "goes-step is-one (inside i n was c good)")
+    call(w, "Step", "known", "to-step", ["_12", "_2", "_3", "_5"], "v", ("r", "Answer", "tokens", "N.the-row"), "g.ended (g.clauses 𝓤 H A at-mem run) (κ₁, (κ₂, tt)) x′")
+    heard(w, "r ≡ reading (bytesOf i was)", "said-step r", "e", "tokens")
+    seen(w, "N.the-row", "r", "v", "is")
+    w.land("_0", struct_typed("N", "r", "is"))
+    w.returns(*BOOK_LENT, "own1", "own2")
+    w.add("by ! (exits r v is (read-in i n was r c good e))" + ")" * w.close)
+    return w
+
+
+# ---------------------------------------------------------------- the functions
+
+MESSAGE = {
+    "v": "m", "Value": "Message", "row": "P.the-row", "vals": "(EL.vals P.the-type P′.the-laws)", "tells": "EL.tells P.the-type P′.the-laws",
+    "val": "EL.val P.the-type P′.the-laws m", "makes": "(EL.makes P.the-type P′.the-plain 𝓤 H A)",
+    "typed": "(EL.lawful P.the-type P′.the-laws 𝓤 H A W tt .typed m _ m-is .0)",
+}
+TIME = {
+    "v": "t", "Value": "ℕ", "row": "u32", "vals": "(uint-vals w32)", "tells": "uint-tells w32",
+    "val": "vint w32 t", "makes": "(uint-makes 𝓤 H A W w32)", "typed": number_typed("t-is .1"),
+}
+TELL = {**MESSAGE, "Made": "Told", "Answer": "Answer", "answer": "answer", "outcome": "telling", "refuse": "zeros", "zeros": "zeros"}
+SETTLE = {**TIME, "Made": "Settled", "Answer": "Notice", "answer": "notice", "outcome": "settling", "refuse": "zero_notice", "zeros": "noNotice"}
+
+FUNCTIONS = [
+    (one, {**TELL, "fn": "tell_one", "step": "told", "promise": "Tells m (bytes h (x₁ .now) (x₂ .now))"}),
+    (one, {**SETTLE, "fn": "settle_one", "step": "settled", "promise": "Settles t (bytes h (x₁ .now) (x₂ .now))"}),
+    (book, {**TELL, "fn": "tell", "step": "told_at", "promise": "ToldAt i m one (x₁ .now) (x₂ .now)"}),
+    (book, {**SETTLE, "fn": "settle", "step": "settled_at", "promise": "SettledAt i t one (x₁ .now) (x₂ .now)"}),
+    (read, {"fn": "read", "Answer": "Answer", "zeros": "zeros"}),
+]
+
+
+def filled(template, p):
+    """the template with every @word@ put in; @word-@ is the word with `-` for `_`"""
+    return re.sub(r"@(\w+)(-?)@", lambda m: p[m[1]].replace("_", "-") if m[2] else p[m[1]], template)
+
+
+def used(text):
+    """the text without the names in its `use` lines that it does not use"""
+    lines = text.split("\n")
+    words = set(re.split(r"[\s(){},;]+", "\n".join(line for line in lines if not line.startswith(("use ", "--")))))
+    words |= {word.split(".")[0] for word in words}
+    kept = []
+    for line in lines:
+        names = re.fullmatch(r"(use \S+\.)\{(.*)\}", line)
+        alias = re.fullmatch(r"use [^{]+ as (\S+)", line)
+        if names:
+            left = [name for name in names[2].split(", ") if name.split(" as ")[-1].strip("_") in words]
+            kept += [f"{names[1]}{{{', '.join(left)}}}"] if left else []
+        elif not alias or alias[1] in words:
+            kept.append(line)
+    return "\n".join(kept)
+
+
+if __name__ == "__main__":
+    for shape, p in FUNCTIONS:
+        p["head"] = (HERE / "head.tpl").read_text().rstrip("\n")
+        p["walk"] = shape(p).text()
+        proof = PROOFS / p["fn"] / "Proof.antt"
+        proof.parent.mkdir(exist_ok=True)
+        proof.write_text(used(filled((HERE / f"{shape.__name__}.tpl").read_text(), p)))
