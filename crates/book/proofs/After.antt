@@ -17,7 +17,7 @@ use Rattle.rules.specs.Stock.{Whole, stateOf}
 use Rattle.rules.specs.Messages.{table, kind, taken}
 use Rattle.rules.specs.Machine.{On, Call, Calls, tell, settle, stock, stepIn, run}
 use Rattle.rules.specs.Book.{machine, blank, book, Accepted, now, bookTells, bookSettles}
-use Rattle.rules.specs.Numbers.{callChecks, rubbish, ownChecks, messageChecks, checks, tells, timeChecks, settleChecks, settles, fresh, tellAnswer, settleAnswer}
+use Rattle.rules.specs.Numbers.{answer, callChecks, rubbish, ownChecks, messageChecks, checks, tells, timeChecks, settleChecks, settles, fresh, tellAnswer, settleAnswer}
 use Rattle.rules.specs.declared.Message.{Message}
 use Rattle.rules.specs.declared.Message.the-variants.{Trade as T, Quote as Q, Opening as O, Pause as P, Reopening as R, Closing as X}
 use Rattle.rules.specs.declared.Setup.{Setup}
@@ -27,7 +27,7 @@ use Rattle.stock.proofs.Laws.{answer-number, notice-number}
 use Rattle.book.specs.Lent.{bytesOf}
 use Rattle.book.specs.Layout.{stockBytes}
 use Rattle.book.specs.Setup.{setupsOf}
-use Rattle.book.specs.Demands.{ours, Made, refused-setup, told, settled, calls, Answered, Never1, UnusedAre0, AfterSetup}
+use Rattle.book.specs.Demands.{ours, Made, refused-setup, told, settled, was-read, calls, bookReads, Answered, Never1, UnusedAre0, AfterSetup}
 use Rattle.book.proofs.Layouts.{Fits, behind, bytes-of}
 use Rattle.book.proofs.Chains.{run-length, every-at, all-fit, started, demand2}
 use Rattle.book.proofs.Follows.{first-number}
@@ -146,6 +146,19 @@ module _ (end : ℕ) (us : List Setup) (accepted : Accepted end us) where
             settles-not-one time _ (clean cs i (omega (arith, long cs, l))) (sym (notice-number time _) ∙ n)
         go false q e = let n : _≡_ {A = ℕ} 3 1 = simp (first-is, q, if-false, ne-eqb 3 0 (λ z. omega (arith, z))) at e in omega (arith, n)
 
+  read-not-one : (cs : Calls machine) (i : ℕ) → bookReads end (hs cs) i .number ≡ 1 → ⊥
+  unfolding bookReads
+  read-not-one cs i = go (ltb i (length (hs cs))) refl
+    where
+      go : (b : Bool) → ltb i (length (hs cs)) ≡ b → bookReads end (hs cs) i .number ≡ 1 → ⊥
+      go true q e =
+          let l = ltb-true i (length (hs cs)) q in
+          let r = clean cs i (omega (arith, long cs, l)) in
+          let n : answer 0 (now end us cs i .stock) .number ≡ 1 = simp (q, r, if-true, if-false) at e in
+          let z : _≡_ {A = ℕ} 0 1 = sym (answer-number 0 (now end us cs i .stock)) ∙ n in
+          omega (arith, z)
+      go false q e = let n : _≡_ {A = ℕ} 3 1 = simp (q, if-false) at e in omega (arith, n)
+
   -- ---------------------------------------------------------------- along a chain
 
   never : 1 ≤ length us → length us ≤ 64 → (pre : Calls machine) (cs : List Made) → Answered end (hs pre) cs → Never1 cs
@@ -159,6 +172,7 @@ module _ (end : ℕ) (us : List Setup) (accepted : Accepted end us) where
     (λ e. settled-not-one pre i s f time (sym (ap (λ x. x .answer .number) (k .0)) ∙ e)),
     never s f (pre ++ (record { at = i; it = settle time } ∷ [])) cs (subst (λ x. Answered end x cs) (sym (run-snoc end (book end us) pre _)) (k .1)),
   )
+  never s f pre (was-read i a ∷ cs) k = ((λ e. read-not-one pre i (sym (ap (λ x. x .number) (k .0)) ∙ e)), never s f pre cs (k .1))
 
 -- ------------------------------------------------------------------ unused places
 

@@ -29,10 +29,10 @@ use Rattle.window.specs.Places.{laid}
 use Rattle.book.specs.Lent.{Lent, lent, Given}
 use Rattle.book.specs.Layout.{empty, stockBytes, layout}
 use Rattle.book.specs.Setup.{setupsOf, recordOf, setupNumber, numberOf, setting, SetsUp}
-use Rattle.book.specs.Demands.{Family, ours, Made, refused-setup, told, settled, Chain, calls, Answered, Demand2, Demand3}
+use Rattle.book.specs.Demands.{Family, ours, Made, refused-setup, told, settled, was-read, Chain, calls, Answered, Demand2, Demand3}
 use Rattle.book.proofs.Laws.{laws}
 use Rattle.book.proofs.Layouts.{Fits}
-use Rattle.book.proofs.Follows.{tell-follows, settle-follows}
+use Rattle.book.proofs.Follows.{tell-follows, settle-follows, read-follows}
 
 -- ------------------------------------------------------------------ the book that a setup starts
 
@@ -119,6 +119,9 @@ follows end hs a s f (settled i time r ∷ cs) b′ k =
     let rest = follows end (stepIn machine (blank end) hs c) fit (omega arith) (omega arith) cs b′
     (subst (λ x. Chain ours x cs b′) (ap (λ (o : Given Notice). o .book) all) (k .2)) in
     ((ap (λ (o : Given Notice). o .answer) all, rest .0), rest .1)
+follows end hs a s f (was-read i r ∷ cs) b′ k =
+    let rest = follows end hs a s f cs b′ (k .1) in
+    ((k .0 ∙ read-follows end hs a s f i (every-at hs (blank end) a i), rest .0), rest .1)
 
 -- ------------------------------------------------------------------ an accepted setup
 

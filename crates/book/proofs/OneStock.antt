@@ -1,14 +1,11 @@
 -- Calls on one lent record follow the rules.
 -- Assumes nothing.
 use Prim.Native.Nat.{ℕ}
-use mathlib.Core.Bool.{Bool, true, false}
 use mathlib.Core.List.{List, [], _∷_}
-use mathlib.Core.Path.{_≡_, refl, sym, ap, _∙_, subst}
+use mathlib.Core.Path.{_≡_, sym, ap, _∙_, subst}
 use native.Mathlib.Omega.{arith}
 use borrow.Author.Tests.{eqb-true}
 use lib.Dec.{eqb}
-use lib.ListN.{length}
-use Rattle.forms.specs.Choice.{if_then_else_}
 use Rattle.forms.proofs.Choice.{if-arms}
 use Rattle.rules.specs.Stock.{Whole}
 use Rattle.rules.specs.Moments.{fire}

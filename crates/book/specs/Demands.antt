@@ -6,18 +6,20 @@
 use Prim.Native.Nat.{ℕ, _*_, _≤_, _<_}
 use mathlib.Core.List.{List, [], _∷_}
 use mathlib.Core.Path.{_≡_}
+use lib.Dec.{ltb}
 use lib.ListN.{length, getD}
+use Rattle.forms.specs.Choice.{if_then_else_}
 use Rattle.forms.specs.Promises.{Determines}
 use Rattle.rules.specs.Stock.{Whole}
-use Rattle.rules.specs.Machine.{messages, notices, tell, settle, Calls, stepIn, run}
+use Rattle.rules.specs.Machine.{messages, notices, tell, settle, Calls, stock, stepIn, run}
 use Rattle.rules.specs.Book.{machine, blank, book, story, Settled, bookTells, bookSettles}
-use Rattle.rules.specs.Numbers.{zeros, fresh, afterTelling, afterSettling, tellAnswer, settleAnswer, setupAnswer}
+use Rattle.rules.specs.Numbers.{rubbish, zeros, answer, fresh, afterTelling, afterSettling, tellAnswer, settleAnswer, setupAnswer}
 use Rattle.rules.specs.declared.Answer.{Answer}
 use Rattle.rules.specs.declared.Message.{Message}
 use Rattle.rules.specs.declared.Notice.{Notice}
 use Rattle.rules.specs.declared.Setup.{Setup}
 use Rattle.stock.specs.View.{Bytes, telling, settling, Tells, Settles}
-use Rattle.book.specs.Lent.{Lent, bytesOf, Given, calling, noNotice, TellsIn, SettlesIn}
+use Rattle.book.specs.Lent.{Lent, bytesOf, Given, calling, noNotice, TellsIn, SettlesIn, readingIn}
 use Rattle.book.specs.Layout.{stockBytes, layout}
 use Rattle.book.specs.Setup.{setupsOf, setting, SetsUp}
 
@@ -28,16 +30,18 @@ pub record Family : Type 1 where
   pub SetUp : (end : ℕ) (list : List ℕ) → Lent → Answer → Lent → Type 0
   pub Tell : (i : ℕ) → Message → Lent → Answer → Lent → Type 0
   pub Settle : (i time : ℕ) → Lent → Notice → Lent → Type 0
+  pub Read : (i : ℕ) → Lent → Answer → Type 0
 
 -- ours: the promises of src/lib.rt
 abbrev pub ours : Family
-ours = record { SetUp = SetsUp; Tell = TellsIn; Settle = SettlesIn }
+ours = record { SetUp = SetsUp; Tell = TellsIn; Settle = SettlesIn; Read = λ i b a. a ≡ readingIn i b }
 
 -- a call that was made, with what it was answered; of setups those that were refused
 pub data Made : Type 0 where
   refused-setup : ℕ → List ℕ → Answer → Made
   told : ℕ → Message → Answer → Made
   settled : ℕ → ℕ → Notice → Made
+  was-read : ℕ → Answer → Made
 
 -- calls of a family, one after the other, from one book to another
 abbrev pub Chain : Family → Lent → List Made → Lent → Type 0
@@ -45,6 +49,7 @@ Chain 𝓕 b [] b′ = b ≡ b′
 Chain 𝓕 b (refused-setup end list a ∷ cs) b′ = (c : Lent) × 𝓕 .SetUp end list b a c × (a .number ≡ 0 → ⊥) × Chain 𝓕 c cs b′
 Chain 𝓕 b (told i m a ∷ cs) b′ = (c : Lent) × 𝓕 .Tell i m b a c × Chain 𝓕 c cs b′
 Chain 𝓕 b (settled i time a ∷ cs) b′ = (c : Lent) × 𝓕 .Settle i time b a c × Chain 𝓕 c cs b′
+Chain 𝓕 b (was-read i a ∷ cs) b′ = 𝓕 .Read i b a × Chain 𝓕 b cs b′
 
 -- the calls as the rules know them
 abbrev pub calls : List Made → Calls machine
@@ -52,6 +57,7 @@ calls [] = []
 calls (refused-setup end list a ∷ cs) = calls cs
 calls (told i m a ∷ cs) = record { at = i; it = tell m } ∷ calls cs
 calls (settled i time a ∷ cs) = record { at = i; it = settle time } ∷ calls cs
+calls (was-read i a ∷ cs) = calls cs
 
 -- ------------------------------------------------------------------ demand 1
 
@@ -66,6 +72,12 @@ pub record Demand1 (𝓕 : Family) : Type 0 where
 
 -- ------------------------------------------------------------------ demand 2
 
+-- what reading stock i is answered: what it shows, 1 where it is rubbish, 3 where there is none
+unfoldable pub bookReads : ℕ → List Whole → ℕ → Answer
+bookReads end hs i =
+    let h = stock machine (blank end) hs i in
+    if ltb i (length hs) then (if rubbish h then zeros 1 else answer 0 (h .stock)) else zeros 3
+
 -- each call is answered as the rules answer it, of the book that the calls before it have left
 abbrev pub Answered : ℕ → List Whole → List Made → Type 0
 Answered end hs [] = Unit {0}
@@ -75,6 +87,7 @@ Answered end hs (told i m a ∷ cs) =
 Answered end hs (settled i time a ∷ cs) =
     (a ≡ bookSettles end hs (512 * length hs) (512 * length hs) i time)
     × Answered end (stepIn machine (blank end) hs (record { at = i; it = settle time })) cs
+Answered end hs (was-read i a ∷ cs) = (a ≡ bookReads end hs i) × Answered end hs cs
 
 -- A setup is answered as the rules answer it; accepted, it leaves the layout of the book that it starts, and refused, every byte. After an
 -- accepted one, whatever calls follow are answered as the rules answer them, and the bytes are the layout of what they leave.
@@ -106,6 +119,7 @@ refusing = record {
   SetUp = λ end list b a b′. (a ≡ zeros 1) × (b′ ≡ b);
   Tell = λ i m b a b′. (a ≡ zeros 1) × (b′ ≡ b);
   Settle = λ i time b a b′. (a ≡ noNotice 1) × (b′ ≡ b);
+  Read = λ i b a. a ≡ zeros 1;
 }
 
 -- one fixed answer, whatever becomes of the book
@@ -114,6 +128,7 @@ fixed x y = record {
   SetUp = λ end list b a b′. a ≡ x;
   Tell = λ i m b a b′. a ≡ x;
   Settle = λ i time b a b′. a ≡ y;
+  Read = λ i b a. a ≡ x;
 }
 
 -- every answer is right, and the book is left as it is
@@ -122,6 +137,7 @@ leaving = record {
   SetUp = λ end list b a b′. (a ≡ setting end list b .answer) × (b′ ≡ b);
   Tell = λ i m b a b′. (a ≡ calling i (telling m) zeros b .answer) × (b′ ≡ b);
   Settle = λ i time b a b′. (a ≡ calling i (settling time) noNotice b .answer) × (b′ ≡ b);
+  Read = λ i b a. a ≡ readingIn i b;
 }
 
 -- a proper setup, after which calls are only acknowledged: answered 0, with whatever beside it
@@ -130,6 +146,7 @@ acknowledging = record {
   SetUp = SetsUp;
   Tell = λ i m b a b′. (a .number ≡ 0) × (b′ ≡ b);
   Settle = λ i time b a b′. (a .answer .number ≡ 0) × (b′ ≡ b);
+  Read = λ i b a. a .number ≡ 0;
 }
 
 -- ------------------------------------------------------------------ what follows an accepted setup
@@ -140,6 +157,7 @@ Never1 [] = Unit {0}
 Never1 (refused-setup end list a ∷ cs) = Never1 cs
 Never1 (told i m a ∷ cs) = (a .number ≡ 1 → ⊥) × Never1 cs
 Never1 (settled i time a ∷ cs) = (a .answer .number ≡ 1 → ⊥) × Never1 cs
+Never1 (was-read i a ∷ cs) = (a .number ≡ 1 → ⊥) × Never1 cs
 
 -- A place behind the held trades of a stock is 0.
 abbrev pub UnusedAre0 : Bytes → Type 0
