@@ -1,0 +1,4 @@
+pub mod Cut
+pub mod Choosing
+pub mod Refusing
+pub mod Laws

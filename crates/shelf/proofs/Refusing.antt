@@ -1,0 +1,16 @@
+-- What is made of number 1 with zeros beside it.
+-- Assumes nothing.
+use mathlib.Core.List.{List}
+use mathlib.Core.Path.{_≡_}
+use Rattle.rules.specs.Numbers.{zeros}
+use Rattle.rules.specs.declared.Answer.{Answer}
+use Rattle.stock.specs.declared.Record.{Record}
+use Rattle.shelf.specs.First.{untold, unsettled}
+use Rattle.shelf.specs.declared.Told8.{Told8}
+use Rattle.shelf.specs.declared.Settled8.{Settled8}
+
+pub told-of : (a : Answer) (book : List Record) → a ≡ zeros 1 → _≡_ {A = Told8} (record { answer = a; book = book }) (untold book)
+told-of a book e = rw e
+
+pub settled-of : (a : Answer) (book : List Record) → a ≡ zeros 1 → _≡_ {A = Settled8} (record { notice = record { answer = a; moment = record { mark = 0; time = 0 } }; book = book }) (unsettled book)
+settled-of a book e = rw e
