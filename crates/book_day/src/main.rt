@@ -77,15 +77,43 @@ fn print_line(stock: u32, time: u64, letter: u8, a: Answer) {
     io::write_all(1, b"\n");
 }
 
-// state, clock, reference price, how many trades
+fn print_side(side: [u32; 16]) {
+    for i in 0..16 {
+        print_number(side[i] as u64);
+    }
+}
+
+fn print_setup(u: Setup) {
+    print_number(u.tier as u64);
+    print_number(u.leverage as u64);
+    print_number(u.primary as u64);
+    print_number(u.close as u64);
+}
+
+fn print_course(c: Course) {
+    print_number(c.state as u64);
+    print_number(c.clock as u64);
+    print_number(c.early as u64);
+    print_number(c.entry as u64);
+    print_number(c.pause as u64);
+}
+
+// Every number of a record, in the order in which they stand.
 fn print_record(r: Record) {
     let s = r.stock;
-    let course = s.course;
     let reference = s.reference;
+    let quotes = s.quotes;
+    let bids = quotes.bids;
+    let offers = quotes.offers;
     io::write_all(1, b"record");
-    print_number(course.state as u64);
-    print_number(course.clock as u64);
+    print_setup(s.setup);
+    print_number(s.end as u64);
+    print_course(s.course);
     print_number(reference.price as u64);
+    print_number(reference.start as u64);
+    print_number(reference.hold as u64);
+    print_side(bids);
+    print_side(offers);
     print_number(r.count as u64);
     io::write_all(1, b"\n");
 }
