@@ -108,20 +108,11 @@ def heard_lasts(w, fact, e):
     """what a callee that was lent the arrays ensures of their last lists"""
     fact = f"{fact} r (zs .1 .0) (zs .1 .1 .0)"
     w.use(1, ["ensured"], f"some (λ (zs : Ends). ‵ (lasts g.ended (κ₁, (κ₂, tt)) x′ zs) ⊛ raw (fact 𝓤 ({fact})))", "id⊢ 𝓤 _")
-    w.lam("pick ! (λ zs.")
-    w.split("lasts", "fact")
-    w.front("fact")
-    w.lam(f"heard ! ({fact}) (λ {e}.")
-    w.put(1)
+    w.ensures("zs", fact, e)
     w.fsplit("last0", "lasts")
     w.drop()
     for k in (1, 2):
-        w.fsplit(f"last{k}", "lasts")
-        w.fsplit(f"final{k}", "length")
-        w.front("length")
-        w.lam(f"feqL ! (λ {e}{sub(k)}.")
-        w.put(1)
-        w.front("lasts")
+        w.last_list(k, f"{e}{sub(k)}")
     w.drop()
     w.front("result")
     w.split("tokens", "given")

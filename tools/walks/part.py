@@ -170,28 +170,13 @@ def called(w, ps, a, arguments_):
     w.front("ensured")
     done = "Done r (zs .0) (zs .1 .0) (zs .1 .1 .0)"
     w.use(1, ["ensured"], f"some (λ (zs : Ends). ‵ (lasts g.ended {lifetimes} (x′ {b} δ) zs) ⊛ raw (fact 𝓤 ({done})))", "id⊢ 𝓤 _")
-    w.lam("pick ! (λ zs.")
-    w.split("lasts", "fact")
-    w.front("fact")
-    w.lam(f"heard ! ({done}) (λ e.")
-    w.put(1)
+    w.ensures("zs", done, "e")
     for k in [0, *MUTS]:
-        w.fsplit("last", "lasts")
-        w.fsplit(f"final{k}", "length")
-        w.front("length")
-        w.lam(f"feqL ! (λ e{sub(k)}.")
-        w.put(1)
-        w.front("lasts")
+        w.last_list(k, f"e{sub(k)}")
     w.drop()
     w.front("result")
     w.split("alive", "given")
-    w.front("given")
-    w.lam("peeks ! N.the-row (Is N.the-row) (shows 𝓤 H A N.the-row) r (v ∷ []) (λ is.")
-    w.rewrite("given", "λ (us : List Val). ‵ (N.the-row .own r us)", "LL.tells N.the-type N′.the-laws r (v ∷ []) is")
-    w.lam("peeks ! N.the-row (Is N.the-row) (shows 𝓤 H A N.the-row) r (valN r ∷ []) (λ isr.")
-    w.drop()
-    w.land(result, struct_typed("N", "r", "is"))
-    w.rewrite(result, f"λ (u : Val). ‵ (fat fullShare N′.mir l{sub(a + 1)} 0 u)", "ap only (LL.tells N.the-type N′.the-laws r (v ∷ []) is)")
+    w.struct_given("N", "is", "isr", result, f"l{sub(a + 1)}")
 
 
 def back(w, a):

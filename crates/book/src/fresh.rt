@@ -65,7 +65,7 @@ fn number_of(stocks: usize, times: usize, prices: usize, end: u32, list: &[u32])
 }
 
 // What a setup is answered; its number is 0 where it is to be done.
-pub fn judged(stocks: usize, times: usize, prices: usize, end: u32, list: &[u32]) -> Answer
+pub(crate) fn judged(stocks: usize, times: usize, prices: usize, end: u32, list: &[u32]) -> Answer
     ensures { λ r. ⌜ r ≡ zeros (setupNumber stocks times prices end (now (list .entry))) ⌝ }
 {
     let number = number_of(stocks, times, prices, end, list);
@@ -105,7 +105,7 @@ fn made_at(list: &[u32], end: u32, i: usize) -> Record
 }
 
 // Makes every record anew.
-pub fn fill(book: &mut [Record], list: &[u32], end: u32)
+pub(crate) fn fill(book: &mut [Record], list: &[u32], end: u32)
     requires { ⌜ length (now list) ≡ 4 * length (now book) ⌝ }
     ensures { λ r. ⌜ now (book .exit) ≡ map (recordOf end) (setupsOf (now (list .entry))) ⌝ }
 {
@@ -117,7 +117,7 @@ pub fn fill(book: &mut [Record], list: &[u32], end: u32)
 }
 
 // Makes every place 0.
-pub fn wipe(xs: &mut [u32])
+pub(crate) fn wipe(xs: &mut [u32])
     ensures { λ _. ⌜ now (xs .exit) ≡ replicate (length (now (xs .entry))) 0 ⌝ }
 {
     for i in 0..xs.len() {

@@ -19,21 +19,21 @@ use stock::Settled;
 use stock::Told;
 
 // Tells a record a message, its parts beside it.
-pub fn told(r: Record, times: &mut [u32], prices: &mut [u32], m: Message) -> Told
+pub(crate) fn told(r: Record, times: &mut [u32], prices: &mut [u32], m: Message) -> Told
     ensures { λ x. ⌜ Tells m (bytes r (now (times .entry)) (now (prices .entry))) x (now (times .exit)) (now (prices .exit)) ⌝ }
 {
     r.tell(times, prices, m)
 }
 
 // Settles it to a time.
-pub fn settled(r: Record, times: &mut [u32], prices: &mut [u32], time: u32) -> Settled
+pub(crate) fn settled(r: Record, times: &mut [u32], prices: &mut [u32], time: u32) -> Settled
     ensures { λ x. ⌜ Settles time (bytes r (now (times .entry)) (now (prices .entry))) x (now (times .exit)) (now (prices .exit)) ⌝ }
 {
     r.settle(times, prices, time)
 }
 
 // Whether the book has another shape than 1 to 64 stocks with 512 places of each array for each.
-pub fn bad_shape(stocks: usize, times: usize, prices: usize) -> bool
+pub(crate) fn bad_shape(stocks: usize, times: usize, prices: usize) -> bool
     ensures { λ r. ⌜ r ≡ badShape stocks times prices ⌝ }
 {
     if stocks == 0 {
@@ -50,7 +50,7 @@ pub fn bad_shape(stocks: usize, times: usize, prices: usize) -> bool
 }
 
 // The number that the first checks of a call give: the shape of the book, then the number of the stock.
-pub fn call_number(stocks: usize, times: usize, prices: usize, i: usize) -> u32
+pub(crate) fn call_number(stocks: usize, times: usize, prices: usize, i: usize) -> u32
     ensures { λ n. ⌜ n ≡ first (callChecks stocks times prices i) ⌝ }
 {
     let bad = bad_shape(stocks, times, prices);
@@ -64,7 +64,7 @@ pub fn call_number(stocks: usize, times: usize, prices: usize, i: usize) -> u32
 }
 
 // A number with zeros beside it.
-pub fn zeros(number: u32) -> Answer
+pub(crate) fn zeros(number: u32) -> Answer
     ensures { λ x. ⌜ x ≡ zerosOf number ⌝ }
 {
     let none = Side { price: 0, flag: 0 };
@@ -81,7 +81,7 @@ pub fn zeros(number: u32) -> Answer
 }
 
 // The same with no moment.
-pub fn zero_notice(number: u32) -> Notice
+pub(crate) fn zero_notice(number: u32) -> Notice
     ensures { λ x. ⌜ x ≡ noNotice number ⌝ }
 {
     let answer = zeros(number);
@@ -92,7 +92,13 @@ pub fn zero_notice(number: u32) -> Notice
 }
 
 // Tells the record of stock i a message: its 512 places of each array are lent to the stock.
-pub fn told_at(r: Record, times: &mut [u32], prices: &mut [u32], i: usize, m: Message) -> Told
+pub(crate) fn told_at(
+    r: Record,
+    times: &mut [u32],
+    prices: &mut [u32],
+    i: usize,
+    m: Message,
+) -> Told
     requires { ⌜ (512 * i + 512 ≤ length (now times)) × (512 * i + 512 ≤ length (now prices)) ⌝ }
     ensures { λ x. ⌜ ToldAt i m r (now (times .entry)) (now (prices .entry)) x (now (times .exit)) (now (prices .exit)) ⌝ }
 {
@@ -102,7 +108,13 @@ pub fn told_at(r: Record, times: &mut [u32], prices: &mut [u32], i: usize, m: Me
 }
 
 // Settles it to a time.
-pub fn settled_at(r: Record, times: &mut [u32], prices: &mut [u32], i: usize, time: u32) -> Settled
+pub(crate) fn settled_at(
+    r: Record,
+    times: &mut [u32],
+    prices: &mut [u32],
+    i: usize,
+    time: u32,
+) -> Settled
     requires { ⌜ (512 * i + 512 ≤ length (now times)) × (512 * i + 512 ≤ length (now prices)) ⌝ }
     ensures { λ x. ⌜ SettledAt i time r (now (times .entry)) (now (prices .entry)) x (now (times .exit)) (now (prices .exit)) ⌝ }
 {
@@ -112,7 +124,7 @@ pub fn settled_at(r: Record, times: &mut [u32], prices: &mut [u32], i: usize, ti
 }
 
 // What it shows, with its places lent to be read.
-pub fn read_at(r: Record, times: &[u32], prices: &[u32], i: usize) -> Answer
+pub(crate) fn read_at(r: Record, times: &[u32], prices: &[u32], i: usize) -> Answer
     requires { ⌜ (512 * i + 512 ≤ length (now times)) × (512 * i + 512 ≤ length (now prices)) ⌝ }
     ensures { λ x. ⌜ x ≡ reading (bytes r (part i (now (times .entry))) (part i (now (prices .entry)))) ⌝ }
 {

@@ -16,7 +16,7 @@ use rules::Message;
 use rules::Stock;
 
 // The message's row of the table.
-pub fn kind_of(m: Message) -> usize
+pub(crate) fn kind_of(m: Message) -> usize
     ensures { λ r. ⌜ (r ≡ kind m) × (r < 6) ⌝ }
 {
     match m {
@@ -37,7 +37,7 @@ fn any_out_of_range(end: u32, time: u32, participant: u32, price: u32) -> bool
 }
 
 // Whether a price, the participant or the time is out of range.
-pub fn out_of_range(end: u32, m: Message) -> bool
+pub(crate) fn out_of_range(end: u32, m: Message) -> bool
     ensures { λ r. ⌜ r ≡ outOfRange end m ⌝ }
 {
     match m {
@@ -72,7 +72,7 @@ pub fn out_of_range(end: u32, m: Message) -> bool
 }
 
 // Whether it must come from the primary and does not.
-pub fn not_primary(primary: u32, m: Message) -> bool
+pub(crate) fn not_primary(primary: u32, m: Message) -> bool
     ensures { λ r. ⌜ r ≡ notPrimary primary m ⌝ }
 {
     match m {
@@ -118,7 +118,7 @@ fn is_straddle(s: Stock) -> bool
 }
 
 // The number of the message's own checks, 0 where none applies.
-pub fn own_refusal(m: Message, held: u32, s: Stock) -> u32
+pub(crate) fn own_refusal(m: Message, held: u32, s: Stock) -> u32
     ensures { λ r. ⌜ r ≡ first (ownChecks m held s) ⌝ }
 {
     let pause = s.course.pause as u64;

@@ -20,7 +20,7 @@ use rules::TRADING;
 use rules::WAITING;
 
 // The difference, at least 0.
-pub fn minus(x: u64, y: u64) -> u64
+pub(crate) fn minus(x: u64, y: u64) -> u64
     ensures { λ r. ⌜ r ≡ x - y ⌝ }
 {
     if x < y {
@@ -30,7 +30,7 @@ pub fn minus(x: u64, y: u64) -> u64
 }
 
 // A row before what the rows after it give.
-pub fn sooner(mark: u32, time: u64, comes: bool, after: Moment) -> Moment
+pub(crate) fn sooner(mark: u32, time: u64, comes: bool, after: Moment) -> Moment
     ensures { λ r. ⌜ r ≡ moments.sooner (mark at time while comes) after ⌝ }
 {
     if comes & ((after.mark == 0) | (time <= after.time)) {
@@ -61,7 +61,7 @@ fn from_v(f: Figures, s: Stock) -> Moment
 }
 
 // The earliest of x, p and c and of those after them.
-pub fn from_x(f: Figures, s: Stock) -> Moment
+pub(crate) fn from_x(f: Figures, s: Stock) -> Moment
     ensures { λ r. ⌜ r ≡ earliest (drop 3 (momentTable f s)) ⌝ }
 {
     let state = s.course.state;
@@ -75,14 +75,14 @@ pub fn from_x(f: Figures, s: Stock) -> Moment
 }
 
 // Whether there is a moment that is not after the time.
-pub fn is_due(time: u32, m: Moment) -> bool
+pub(crate) fn is_due(time: u32, m: Moment) -> bool
     ensures { λ r. ⌜ r ≡ dueBy time m ⌝ }
 {
     (m.mark != 0) & (m.time <= (time as u64))
 }
 
 // Whether there is a moment before the time.
-pub fn is_past(time: u32, m: Moment) -> bool
+pub(crate) fn is_past(time: u32, m: Moment) -> bool
     ensures { λ r. ⌜ r ≡ pastAt time m ⌝ }
 {
     (m.mark != 0) & (m.time < (time as u64))

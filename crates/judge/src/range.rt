@@ -12,14 +12,14 @@ use rules::Stock;
 use rules::TRADING;
 
 // Whether a number is no price.
-pub fn not_price(price: u32) -> bool
+pub(crate) fn not_price(price: u32) -> bool
     ensures { λ r. ⌜ r ≡ notPrice price ⌝ }
 {
     (price == 0) | (HIGHEST_PRICE < price)
 }
 
 // Whether a time is after the last, `end` + 300,000.
-pub fn not_time(end: u32, time: u32) -> bool
+pub(crate) fn not_time(end: u32, time: u32) -> bool
     ensures { λ r. ⌜ r ≡ notTime end time ⌝ }
 {
     (end as u64) + 300_000 < (time as u64)
@@ -68,7 +68,7 @@ fn bad_reference(s: Stock) -> bool
 }
 
 // Whether the setup, the end or one of these is bad, or the state, or a pause that began too late for its state.
-pub fn bad_stock(s: Stock) -> bool
+pub(crate) fn bad_stock(s: Stock) -> bool
     ensures { λ r. ⌜ r ≡ badStock s ⌝ }
 {
     let state = s.course.state;

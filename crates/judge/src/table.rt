@@ -14,7 +14,7 @@ const TAKES: [[u32; 6]; 6] = [
 ];
 
 // The entry of a kind of message and a state; there is no state over 5.
-pub fn taken(kind: usize, state: u32) -> u32
+pub(crate) fn taken(kind: usize, state: u32) -> u32
     requires { ⌜ kind < 6 ⌝ }
     ensures { λ r. ⌜ r ≡ messages.taken kind state ⌝ }
 {

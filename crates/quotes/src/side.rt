@@ -7,7 +7,7 @@ use rules::Stock;
 use rules::TRADING;
 
 // Whether bands are in force.
-pub fn in_force(s: Stock) -> bool
+pub(crate) fn in_force(s: Stock) -> bool
     ensures { λ r. ⌜ r ≡ inForce s ⌝ }
 {
     let state = s.course.state;
@@ -18,7 +18,7 @@ pub fn in_force(s: Stock) -> bool
 }
 
 // The time that decides k.
-pub fn k_time(s: Stock) -> u32
+pub(crate) fn k_time(s: Stock) -> u32
     ensures { λ r. ⌜ r ≡ kTime s ⌝ }
 {
     let c = s.course;
@@ -29,7 +29,7 @@ pub fn k_time(s: Stock) -> u32
 }
 
 // The better of two bids, the first of which counts or is absent.
-pub fn higher_of(on: bool, upper: u64, best: u32, bid: u32) -> u32
+pub(crate) fn higher_of(on: bool, upper: u64, best: u32, bid: u32) -> u32
     ensures { λ r. ⌜ r ≡ higher on upper best bid ⌝ }
 {
     if on & (upper < (bid as u64)) {
@@ -42,7 +42,7 @@ pub fn higher_of(on: bool, upper: u64, best: u32, bid: u32) -> u32
 }
 
 // The best bid, 0 where none counts.
-pub fn best_bid(on: bool, upper: u64, bids: [u32; 16]) -> u32
+pub(crate) fn best_bid(on: bool, upper: u64, bids: [u32; 16]) -> u32
     ensures { λ r. ⌜ r ≡ bestBid on upper bids ⌝ }
 {
     let mut best: u32 = 0;
@@ -53,7 +53,7 @@ pub fn best_bid(on: bool, upper: u64, bids: [u32; 16]) -> u32
 }
 
 // The better of two offers, the first of which counts or is absent.
-pub fn lesser_of(on: bool, lower: u64, best: u32, offer: u32) -> u32
+pub(crate) fn lesser_of(on: bool, lower: u64, best: u32, offer: u32) -> u32
     ensures { λ r. ⌜ r ≡ lesser on lower best offer ⌝ }
 {
     if offer == 0 {
@@ -72,7 +72,7 @@ pub fn lesser_of(on: bool, lower: u64, best: u32, offer: u32) -> u32
 }
 
 // The best offer, 0 where none counts.
-pub fn best_offer(on: bool, lower: u64, offers: [u32; 16]) -> u32
+pub(crate) fn best_offer(on: bool, lower: u64, offers: [u32; 16]) -> u32
     ensures { λ r. ⌜ r ≡ bestOffer on lower offers ⌝ }
 {
     let mut best: u32 = 0;
@@ -83,7 +83,7 @@ pub fn best_offer(on: bool, lower: u64, offers: [u32; 16]) -> u32
 }
 
 // The best bid's flag.
-pub fn bid_flag(on: bool, bands: Limits, bid: u32) -> u32
+pub(crate) fn bid_flag(on: bool, bands: Limits, bid: u32) -> u32
     ensures { λ r. ⌜ r ≡ bidFlag on bands bid ⌝ }
 {
     let b = bid as u64;
@@ -102,7 +102,7 @@ pub fn bid_flag(on: bool, bands: Limits, bid: u32) -> u32
 }
 
 // The best offer's flag.
-pub fn offer_flag(on: bool, bands: Limits, offer: u32) -> u32
+pub(crate) fn offer_flag(on: bool, bands: Limits, offer: u32) -> u32
     ensures { λ r. ⌜ r ≡ offerFlag on bands offer ⌝ }
 {
     let o = offer as u64;

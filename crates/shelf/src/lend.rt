@@ -7,7 +7,7 @@ use rules::Message;
 use stock::Record;
 
 // Sets up the first n stocks.
-pub fn setup(
+pub(crate) fn setup(
     book: [Record; 8],
     n: usize,
     times: &mut [u32],
@@ -24,7 +24,7 @@ pub fn setup(
 }
 
 // Tells one of the first n stocks a message.
-pub fn tell(
+pub(crate) fn tell(
     book: [Record; 8],
     n: usize,
     times: &mut [u32],
@@ -41,7 +41,7 @@ pub fn tell(
 }
 
 // Settles one of the first n stocks to a time.
-pub fn settle(
+pub(crate) fn settle(
     book: [Record; 8],
     n: usize,
     times: &mut [u32],

@@ -13,7 +13,7 @@ use rules::Notice;
 use rules::Side;
 use stock::Record;
 
-pub fn one() -> Answer
+pub(crate) fn one() -> Answer
     ensures { λ r. ⌜ r ≡ zeros 1 ⌝ }
 {
     let none = Side { price: 0, flag: 0 };
@@ -29,14 +29,14 @@ pub fn one() -> Answer
     }
 }
 
-pub fn told(book: [Record; 8]) -> Told8
+pub(crate) fn told(book: [Record; 8]) -> Told8
     ensures { λ r. ⌜ r ≡ untold book ⌝ }
 {
     let answer = one();
     Told8 { answer, book }
 }
 
-pub fn settled(book: [Record; 8]) -> Settled8
+pub(crate) fn settled(book: [Record; 8]) -> Settled8
     ensures { λ r. ⌜ r ≡ unsettled book ⌝ }
 {
     let answer = one();

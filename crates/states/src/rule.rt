@@ -25,7 +25,7 @@ use rules::TRADING;
 use rules::WAITING;
 
 // The figures, none where no window of 32-bit prices has them.
-pub fn fitted(f: Figures) -> Figures
+pub(crate) fn fitted(f: Figures) -> Figures
     ensures { λ r. ⌜ (r ≡ fit f) × Fits r ⌝ }
 {
     if 4_294_967_295 * (f.count as u64) < f.sum {
@@ -39,7 +39,7 @@ pub fn fitted(f: Figures) -> Figures
 }
 
 // The mean of the window's prices.
-pub fn mean(f: Figures) -> u32
+pub(crate) fn mean(f: Figures) -> u32
     requires { ⌜ Fits f ⌝ }
     ensures { λ r. ⌜ r ≡ meanIn f ⌝ }
 {
@@ -47,7 +47,7 @@ pub fn mean(f: Figures) -> u32
 }
 
 // Whether a side has flag 3.
-pub fn at_limit(b: Best) -> bool
+pub(crate) fn at_limit(b: Best) -> bool
     ensures { λ r. ⌜ r ≡ flagged 3 b ⌝ }
 {
     if b.bid.flag == 3 {
@@ -57,7 +57,7 @@ pub fn at_limit(b: Best) -> bool
 }
 
 // Whether the best bid is above the best offer.
-pub fn is_crossed(b: Best) -> bool
+pub(crate) fn is_crossed(b: Best) -> bool
     ensures { λ r. ⌜ r ≡ crossed b ⌝ }
 {
     let offer = b.offer.price;
@@ -68,7 +68,7 @@ pub fn is_crossed(b: Best) -> bool
 }
 
 // Looking at the quotes, which may begin Limit.
-pub fn look(s: Stock) -> Stock
+pub(crate) fn look(s: Stock) -> Stock
     ensures { λ r. ⌜ r ≡ look s ⌝ }
 {
     let state = s.course.state;
@@ -82,14 +82,14 @@ pub fn look(s: Stock) -> Stock
 }
 
 // An entry into Trading.
-pub fn begin_trading(price: u32, s: Stock) -> Stock
+pub(crate) fn begin_trading(price: u32, s: Stock) -> Stock
     ensures { λ r. ⌜ r ≡ begin-trading price s ⌝ }
 {
     look(set::in_state(TRADING, set::refer_to(price, s)))
 }
 
 // Limit, whose quotes were set anew, may end.
-pub fn leave(f: Figures, s: Stock) -> Stock
+pub(crate) fn leave(f: Figures, s: Stock) -> Stock
     requires { ⌜ Fits f ⌝ }
     ensures { λ r. ⌜ r ≡ leave f s ⌝ }
 {
@@ -104,7 +104,7 @@ pub fn leave(f: Figures, s: Stock) -> Stock
 }
 
 // The Test.
-pub fn test(f: Figures, s: Stock) -> Stock
+pub(crate) fn test(f: Figures, s: Stock) -> Stock
     requires { ⌜ Fits f ⌝ }
     ensures { λ r. ⌜ r ≡ test f s ⌝ }
 {
@@ -128,7 +128,7 @@ pub fn test(f: Figures, s: Stock) -> Stock
 }
 
 // A pause starts now.
-pub fn begin_pause(s: Stock) -> Stock
+pub(crate) fn begin_pause(s: Stock) -> Stock
     ensures { λ r. ⌜ r ≡ begin-pause s ⌝ }
 {
     let end = s.end as u64;
@@ -140,7 +140,7 @@ pub fn begin_pause(s: Stock) -> Stock
 }
 
 // A trade has joined the window.
-pub fn trade(f: Figures, s: Stock) -> Stock
+pub(crate) fn trade(f: Figures, s: Stock) -> Stock
     requires { ⌜ Fits f ⌝ }
     ensures { λ r. ⌜ r ≡ tradeRules f s ⌝ }
 {
@@ -155,7 +155,7 @@ pub fn trade(f: Figures, s: Stock) -> Stock
 }
 
 // A quote is set.
-pub fn quote(f: Figures, s: Stock) -> Stock
+pub(crate) fn quote(f: Figures, s: Stock) -> Stock
     requires { ⌜ Fits f ⌝ }
     ensures { λ r. ⌜ r ≡ quoteRules f s ⌝ }
 {
@@ -167,7 +167,7 @@ pub fn quote(f: Figures, s: Stock) -> Stock
 }
 
 // A message, the clock being at its time.
-pub fn message(m: Message, f: Figures, s: Stock) -> Stock
+pub(crate) fn message(m: Message, f: Figures, s: Stock) -> Stock
     requires { ⌜ Fits f ⌝ }
     ensures { λ r. ⌜ r ≡ effectAt m f s ⌝ }
 {
@@ -187,7 +187,7 @@ pub fn message(m: Message, f: Figures, s: Stock) -> Stock
 }
 
 // The moment f.
-pub fn first_five(f: Figures, s: Stock) -> Stock
+pub(crate) fn first_five(f: Figures, s: Stock) -> Stock
     requires { ⌜ Fits f ⌝ }
     ensures { λ r. ⌜ r ≡ first-five f s ⌝ }
 {
@@ -199,7 +199,7 @@ pub fn first_five(f: Figures, s: Stock) -> Stock
 }
 
 // A moment, the clock being at its time; any other mark is h.
-pub fn moment(mark: u32, f: Figures, s: Stock) -> Stock
+pub(crate) fn moment(mark: u32, f: Figures, s: Stock) -> Stock
     requires { ⌜ Fits f ⌝ }
     ensures { λ r. ⌜ r ≡ effect mark f s ⌝ }
 {

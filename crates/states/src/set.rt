@@ -11,7 +11,7 @@ use rules::Quotes;
 use rules::Stock;
 
 // The clock is at `time`.
-pub fn at_time(time: u32, s: Stock) -> Stock
+pub(crate) fn at_time(time: u32, s: Stock) -> Stock
     ensures { λ r. ⌜ r ≡ at-time time s ⌝ }
 {
     let mut n = s;
@@ -20,7 +20,7 @@ pub fn at_time(time: u32, s: Stock) -> Stock
 }
 
 // Another state.
-pub fn in_state(state: u32, s: Stock) -> Stock
+pub(crate) fn in_state(state: u32, s: Stock) -> Stock
     ensures { λ r. ⌜ r ≡ in-state state s ⌝ }
 {
     let mut n = s;
@@ -29,7 +29,7 @@ pub fn in_state(state: u32, s: Stock) -> Stock
 }
 
 // The reference `price`, started now, with a new hold.
-pub fn refer_to(price: u32, s: Stock) -> Stock
+pub(crate) fn refer_to(price: u32, s: Stock) -> Stock
     ensures { λ r. ⌜ r ≡ refer-to price s ⌝ }
 {
     let mut n = s;
@@ -40,7 +40,7 @@ pub fn refer_to(price: u32, s: Stock) -> Stock
 }
 
 // The moment h has happened.
-pub fn hold_ended(s: Stock) -> Stock
+pub(crate) fn hold_ended(s: Stock) -> Stock
     ensures { λ r. ⌜ r ≡ hold-ended s ⌝ }
 {
     let mut n = s;
@@ -49,7 +49,7 @@ pub fn hold_ended(s: Stock) -> Stock
 }
 
 // The moment f has happened.
-pub fn not_early(s: Stock) -> Stock
+pub(crate) fn not_early(s: Stock) -> Stock
     ensures { λ r. ⌜ r ≡ not-early s ⌝ }
 {
     let mut n = s;
@@ -58,7 +58,7 @@ pub fn not_early(s: Stock) -> Stock
 }
 
 // Limit, entered now.
-pub fn enter_limit(s: Stock) -> Stock
+pub(crate) fn enter_limit(s: Stock) -> Stock
     ensures { λ r. ⌜ r ≡ enter-limit s ⌝ }
 {
     let mut n = s;
@@ -68,7 +68,7 @@ pub fn enter_limit(s: Stock) -> Stock
 }
 
 // A pause of either kind, started now.
-pub fn enter_pause(state: u32, s: Stock) -> Stock
+pub(crate) fn enter_pause(state: u32, s: Stock) -> Stock
     ensures { λ r. ⌜ r ≡ enter-pause state s ⌝ }
 {
     let mut n = s;
@@ -78,7 +78,7 @@ pub fn enter_pause(state: u32, s: Stock) -> Stock
 }
 
 // One side's prices, that of a participant being `price`; there is no participant over 15.
-pub fn with_price(participant: u32, price: u32, side: [u32; 16]) -> [u32; 16]
+pub(crate) fn with_price(participant: u32, price: u32, side: [u32; 16]) -> [u32; 16]
     ensures { λ r. ⌜ r ≡ set side participant price ⌝ }
 {
     if LAST_PARTICIPANT < participant {
@@ -90,7 +90,7 @@ pub fn with_price(participant: u32, price: u32, side: [u32; 16]) -> [u32; 16]
 }
 
 // One participant's bid and offer.
-pub fn with_quote(participant: u32, bid: u32, offer: u32, s: Stock) -> Stock
+pub(crate) fn with_quote(participant: u32, bid: u32, offer: u32, s: Stock) -> Stock
     ensures { λ r. ⌜ r ≡ with-quote participant bid offer s ⌝ }
 {
     let bids = s.quotes.bids;
@@ -104,7 +104,7 @@ pub fn with_quote(participant: u32, bid: u32, offer: u32, s: Stock) -> Stock
 }
 
 // Closed, with no quote.
-pub fn shut(s: Stock) -> Stock
+pub(crate) fn shut(s: Stock) -> Stock
     ensures { λ r. ⌜ r ≡ shut s ⌝ }
 {
     let q = Quotes {

@@ -14,7 +14,7 @@ use rules::Side;
 use rules::Stock;
 
 // A number with what the stock shows, after 1, 2 and 3 with zeros.
-pub fn answer_of(number: u32, s: Stock) -> Answer
+pub(crate) fn answer_of(number: u32, s: Stock) -> Answer
     ensures { λ r. ⌜ r ≡ answer number s ⌝ }
 {
     if (number == 1) | (number == 2) | (number == 3) {
@@ -42,7 +42,7 @@ pub fn answer_of(number: u32, s: Stock) -> Answer
 }
 
 // A refused message: the record is handed back as it is.
-pub fn refused(number: u32, r: Record) -> Told
+pub(crate) fn refused(number: u32, r: Record) -> Told
     ensures { λ x. ⌜ x ≡ refusal number r ⌝ }
 {
     let s = r.stock;
@@ -51,7 +51,7 @@ pub fn refused(number: u32, r: Record) -> Told
 }
 
 // A settling that did no moment.
-pub fn unsettled(number: u32, r: Record) -> Settled
+pub(crate) fn unsettled(number: u32, r: Record) -> Settled
     ensures { λ x. ⌜ x ≡ nothingDone number r ⌝ }
 {
     let s = r.stock;

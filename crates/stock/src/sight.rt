@@ -16,7 +16,7 @@ pub struct Sight {
 }
 
 // Judges a record with its places.
-pub fn see(r: Record, times: &[u32], prices: &[u32]) -> Sight
+pub(crate) fn see(r: Record, times: &[u32], prices: &[u32]) -> Sight
     ensures { λ g. ⌜ Seen (bytes r (now (times .entry)) (now (prices .entry))) g ⌝ }
 {
     let s = r.stock;
@@ -32,7 +32,7 @@ pub fn see(r: Record, times: &[u32], prices: &[u32]) -> Sight
 }
 
 // The number that a message is answered with.
-pub fn message_number(m: Message, seen: Sight, r: Record) -> u32
+pub(crate) fn message_number(m: Message, seen: Sight, r: Record) -> u32
     ensures { λ n. ⌜ n ≡ messageNumber m seen r ⌝ }
 {
     if seen.sound {
@@ -42,7 +42,7 @@ pub fn message_number(m: Message, seen: Sight, r: Record) -> u32
 }
 
 // The number that settling to a time is answered with.
-pub fn settle_number(time: u32, seen: Sight, s: Stock) -> u32
+pub(crate) fn settle_number(time: u32, seen: Sight, s: Stock) -> u32
     ensures { λ n. ⌜ n ≡ settleNumber time seen s ⌝ }
 {
     if seen.sound {

@@ -95,7 +95,7 @@ fn figures_after(change: Change, f: Figures, times: &[u32], prices: &[u32]) -> F
 }
 
 // The step of an accepted message, with the figures of the window that is held.
-pub fn after_message(m: Message, f: Figures, times: &[u32], prices: &[u32], s: Stock) -> Step
+pub(crate) fn after_message(m: Message, f: Figures, times: &[u32], prices: &[u32], s: Stock) -> Step
     requires { ⌜ Held f (now times) (now prices) ⌝ }
     ensures { λ r. ⌜ Makes (after m) (holding s f (now (times .entry)) (now (prices .entry))) r ⌝ }
 {
@@ -119,7 +119,14 @@ fn own_time(m: Moment, by: u32) -> u32
 }
 
 // The step of a moment that is due by a time; it happens at its own.
-pub fn after_moment(m: Moment, by: u32, f: Figures, times: &[u32], prices: &[u32], s: Stock) -> Step
+pub(crate) fn after_moment(
+    m: Moment,
+    by: u32,
+    f: Figures,
+    times: &[u32],
+    prices: &[u32],
+    s: Stock,
+) -> Step
     requires { ⌜ Held f (now times) (now prices) × (m .time ≤ by) ⌝ }
     ensures { λ r. ⌜ Makes (come m) (holding s f (now (times .entry)) (now (prices .entry))) r ⌝ }
 {

@@ -6,7 +6,7 @@ ghost use lib.ListN.{length, take, drop, replicate};
 ghost use Rattle.window.specs.Places.{placed};
 
 // Puts `x` behind the used places, where there is one more.
-pub fn join(xs: &mut [u32], n: usize, x: u32)
+pub(crate) fn join(xs: &mut [u32], n: usize, x: u32)
     ensures { λ _. ⌜ now (xs .exit) ≡ placed n (take n (now (xs .entry)) ++ (x ∷ [])) (now (xs .entry)) ⌝ }
 {
     if n < xs.len() {
@@ -15,7 +15,7 @@ pub fn join(xs: &mut [u32], n: usize, x: u32)
 }
 
 // Makes every place 0.
-pub fn zero(xs: &mut [u32])
+pub(crate) fn zero(xs: &mut [u32])
     ensures { λ _. ⌜ now (xs .exit) ≡ replicate (length (now (xs .entry))) 0 ⌝ }
 {
     for i in 0..xs.len() {
@@ -24,7 +24,7 @@ pub fn zero(xs: &mut [u32])
 }
 
 // Moves `keep` places down by `gone`; what they leave stays there as well.
-pub fn lower(xs: &mut [u32], gone: usize, keep: usize)
+pub(crate) fn lower(xs: &mut [u32], gone: usize, keep: usize)
     requires { ⌜ gone + keep ≤ length (now xs) ⌝ }
     ensures { λ _. ⌜ now (xs .exit) ≡ take keep (drop gone (now (xs .entry))) ++ drop keep (now (xs .entry)) ⌝ }
 {
@@ -34,7 +34,7 @@ pub fn lower(xs: &mut [u32], gone: usize, keep: usize)
 }
 
 // Moves the used places down over the first `gone`, and makes the freed ones 0.
-pub fn slide(xs: &mut [u32], n: usize, gone: usize)
+pub(crate) fn slide(xs: &mut [u32], n: usize, gone: usize)
     requires { ⌜ (gone ≤ n) × (n ≤ length (now xs)) ⌝ }
     ensures { λ _. ⌜ now (xs .exit) ≡ placed n (drop gone (take n (now (xs .entry)))) (now (xs .entry)) ⌝ }
 {
@@ -44,7 +44,7 @@ pub fn slide(xs: &mut [u32], n: usize, gone: usize)
 }
 
 // The first `gone` leave, all where so many are not used.
-pub fn leave(xs: &mut [u32], n: usize, gone: usize)
+pub(crate) fn leave(xs: &mut [u32], n: usize, gone: usize)
     ensures { λ _. ⌜ now (xs .exit) ≡ placed n (drop gone (take n (now (xs .entry)))) (now (xs .entry)) ⌝ }
 {
     if xs.len() < n {
@@ -58,7 +58,7 @@ pub fn leave(xs: &mut [u32], n: usize, gone: usize)
 }
 
 // Leaves `x` alone, in the first place.
-pub fn start(xs: &mut [u32], n: usize, x: u32)
+pub(crate) fn start(xs: &mut [u32], n: usize, x: u32)
     ensures { λ _. ⌜ now (xs .exit) ≡ placed n (x ∷ []) (now (xs .entry)) ⌝ }
 {
     if n <= xs.len() {

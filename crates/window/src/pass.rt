@@ -15,7 +15,7 @@ pub struct Prices {
 }
 
 // Whether one of the first `n` times is after the clock or before the time ahead of it.
-pub fn bad_times(clock: u32, n: usize, times: &[u32]) -> bool
+pub(crate) fn bad_times(clock: u32, n: usize, times: &[u32]) -> bool
     requires { ⌜ n ≤ length (now times) ⌝ }
     ensures { λ r. ⌜ r ≡ timesSeen clock (take n (now (times .entry))) .bad ⌝ }
 {
@@ -30,7 +30,7 @@ pub fn bad_times(clock: u32, n: usize, times: &[u32]) -> bool
 }
 
 // Whether one of the first `n` prices is out of range, and their sum.
-pub fn over_prices(n: usize, prices: &[u32]) -> Prices
+pub(crate) fn over_prices(n: usize, prices: &[u32]) -> Prices
     requires { ⌜ (n ≤ 512) × (n ≤ length (now prices)) ⌝ }
     ensures { λ r. ⌜ r ≡ pricesSeen (take n (now (prices .entry))) ⌝ }
 {
@@ -45,7 +45,7 @@ pub fn over_prices(n: usize, prices: &[u32]) -> Prices
 }
 
 // The time in place `i` of the first `n`, 0 past them.
-pub fn at(i: usize, n: usize, times: &[u32]) -> u32
+pub(crate) fn at(i: usize, n: usize, times: &[u32]) -> u32
     requires { ⌜ n ≤ length (now times) ⌝ }
     ensures { λ r. ⌜ r ≡ getD (take n (now (times .entry))) i 0 ⌝ }
 {
@@ -56,7 +56,7 @@ pub fn at(i: usize, n: usize, times: &[u32]) -> u32
 }
 
 // How many at the front of the first `n` times have left.
-pub fn gone_in(time: u32, n: usize, times: &[u32]) -> usize
+pub(crate) fn gone_in(time: u32, n: usize, times: &[u32]) -> usize
     requires { ⌜ n ≤ length (now times) ⌝ }
     ensures { λ r. ⌜ r ≡ leftOf time (take n (now (times .entry))) ⌝ }
 {
@@ -73,7 +73,7 @@ pub fn gone_in(time: u32, n: usize, times: &[u32]) -> usize
 }
 
 // The sum of the first `n` prices without the first `from`.
-pub fn sum(from: usize, n: usize, prices: &[u32]) -> u64
+pub(crate) fn sum(from: usize, n: usize, prices: &[u32]) -> u64
     requires { ⌜ (from ≤ n) × (n ≤ 512) × (n ≤ length (now prices)) ⌝ }
     ensures { λ r. ⌜ r ≡ foldl _+_ 0 (drop from (take n (now (prices .entry)))) ⌝ }
 {
