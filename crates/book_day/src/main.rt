@@ -4,10 +4,7 @@
 use rules::Answer;
 use rules::Course;
 use rules::Message;
-use rules::Quotes;
-use rules::Reference;
 use rules::Setup;
-use rules::Stock;
 use stock::Record;
 
 // How many of the eight records are the book.
@@ -15,41 +12,6 @@ const STOCKS: usize = 3;
 
 // What both days settle to.
 const SETTLED: u32 = 302_000;
-
-fn unset() -> Record {
-    let setup = Setup {
-        tier: 0,
-        leverage: 0,
-        primary: 0,
-        close: 0,
-    };
-    let course = Course {
-        state: 0,
-        clock: 0,
-        early: 0,
-        entry: 0,
-        pause: 0,
-    };
-    let reference = Reference {
-        price: 0,
-        start: 0,
-        hold: 0,
-    };
-    let quotes = Quotes {
-        bids: [0; 16],
-        offers: [0; 16],
-    };
-    Record {
-        stock: Stock {
-            setup,
-            end: 0,
-            course,
-            reference,
-            quotes,
-        },
-        count: 0,
-    }
-}
 
 fn print_number(n: u64) {
     io::write_all(1, b" ");
@@ -277,8 +239,7 @@ fn day(calls: &[u32], stocks: &[u32]) {
     let mut t = [0u32; 1536];
     let mut p = [0u32; 1536];
     let setups = [1, 1, 0, 100_000, 2, 1, 1, 110_000, 2, 3, 2, 120_000];
-    let none = unset();
-    let start = [none; 8];
+    let start = shelf::blank();
     let done = shelf::setup(start, STOCKS, &mut t, &mut p, 23_400_000, &setups);
     let fresh = done.book;
     let book = played(fresh, &mut t, &mut p, calls, stocks);

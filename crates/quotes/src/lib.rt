@@ -3,12 +3,19 @@
 ghost use mathlib.Core.Path.{_≡_};
 ghost use Rattle.rules.specs.Quotes.{bandsIn, bestOf};
 ghost use Rattle.rules.specs.Numbers.{outside};
+ghost use Rattle.quotes.specs.Shown.{shownOf};
 use band::Limits;
 use rules::Best;
 use rules::Side;
 use rules::Stock;
 
 mod side;
+
+// What a stock shows.
+pub struct Shown {
+    pub bands: Limits,
+    pub best: Best,
+}
 
 // The lower and the upper band in force, zeros where none are.
 pub fn bands_in(s: Stock) -> Limits
@@ -23,9 +30,9 @@ pub fn bands_in(s: Stock) -> Limits
     Limits { lower: 0, upper: 0 }
 }
 
-// The best bid and the best offer, each with its flag.
-pub fn best_of(s: Stock) -> Best
-    ensures { λ r. ⌜ r ≡ bestOf s ⌝ }
+// The bands in force, and the best bid and the best offer, each with its flag.
+pub fn show(s: Stock) -> Shown
+    ensures { λ r. ⌜ r ≡ shownOf s ⌝ }
 {
     let on = side::in_force(s);
     let bands = bands_in(s);
@@ -35,7 +42,7 @@ pub fn best_of(s: Stock) -> Best
     let offer = side::best_offer(on, bands.lower, offers);
     let b = side::bid_flag(on, bands, bid);
     let o = side::offer_flag(on, bands, offer);
-    Best {
+    let best = Best {
         bid: Side {
             price: bid,
             flag: b,
@@ -44,7 +51,16 @@ pub fn best_of(s: Stock) -> Best
             price: offer,
             flag: o,
         },
-    }
+    };
+    Shown { bands, best }
+}
+
+// The best bid and the best offer alone.
+pub fn best_of(s: Stock) -> Best
+    ensures { λ r. ⌜ r ≡ bestOf s ⌝ }
+{
+    let r = show(s);
+    r.best
 }
 
 // Whether a price is outside bands in force.

@@ -13,6 +13,8 @@ use Rattle.stock.specs.View.{telling, settling}
 use Rattle.stock.specs.declared.Record.{Record}
 use Rattle.book.specs.Lent.{Lent, lent, Given, calling, noNotice}
 use Rattle.book.specs.Setup.{setting}
+use Rattle.forms.proofs.Promises.{agree as one-value}
+use Rattle.shelf.specs.Blank.{blankRecords}
 use Rattle.shelf.specs.First.{First, Within, Same}
 use Rattle.shelf.specs.Laws.{Left8, Laws}
 use Rattle.shelf.specs.declared.Told8.{Told8}
@@ -55,6 +57,7 @@ settled a rs = record { notice = a; book = rs }
 
 pub laws : Laws
 laws = record {
+  blank-determined = one-value blankRecords;
   setup-determined = λ n book ts ps end list. agree n book ts ps (setting end list (lent (take n book) ts ps)) _ (λ r. r .answer) (λ r. r .book) told (λ r. refl);
   tell-determined = λ n book ts ps i m. agree n book ts ps (calling i (telling m) zeros (lent (take n book) ts ps)) _ (λ r. r .answer) (λ r. r .book) told (λ r. refl);
   settle-determined = λ n book ts ps i time. agree n book ts ps (calling i (settling time) noNotice (lent (take n book) ts ps)) _ (λ r. r .notice) (λ r. r .book) settled (λ r. refl);

@@ -2,9 +2,11 @@
 -- Assumes nothing.
 use Prim.Native.Nat.{ℕ}
 use mathlib.Core.List.{List}
+use mathlib.Core.Path.{_≡_}
 use Rattle.forms.specs.Promises.{Determines}
 use Rattle.rules.specs.declared.Message.{Message}
 use Rattle.stock.specs.declared.Record.{Record}
+use Rattle.shelf.specs.Blank.{blankRecords}
 use Rattle.shelf.specs.First.{Within, SetsUpFirst, TellsFirst, SettlesFirst, Same, untold, unsettled}
 use Rattle.shelf.specs.declared.Told8.{Told8}
 use Rattle.shelf.specs.declared.Settled8.{Settled8}
@@ -30,6 +32,7 @@ module _ (n : ℕ) (book : List Record) (ts ps : List ℕ) where
       Within n (SettlesFirst n i time book ts ps (x .result) (x .times) (x .prices)) (Same (x .result) (unsettled book) ts ps (x .times) (x .prices)))
 
 pub record Laws : Type 0 where
+  pub blank-determined : Determines (λ (r : List Record). r ≡ blankRecords)
   pub setup-determined : (n : ℕ) (book : List Record) (ts ps : List ℕ) → SetupDetermined n book ts ps
   pub tell-determined : (n : ℕ) (book : List Record) (ts ps : List ℕ) → TellDetermined n book ts ps
   pub settle-determined : (n : ℕ) (book : List Record) (ts ps : List ℕ) → SettleDetermined n book ts ps

@@ -1,5 +1,7 @@
 // A book of at most eight stocks by value, of which the first n are the book: a program can keep it in a local.
 // No function has a `requires`: where n is over eight, the answer is number 1 and nothing changes.
+ghost use mathlib.Core.Path.{_≡_};
+ghost use Rattle.shelf.specs.Blank.{blankRecords};
 ghost use Rattle.shelf.specs.First.{Within, SetsUpFirst, TellsFirst, SettlesFirst, Same, untold, unsettled};
 use rules::Answer;
 use rules::Message;
@@ -8,6 +10,7 @@ use stock::Record;
 
 mod lend;
 mod refuse;
+mod zero;
 
 // An answer, with the next records.
 pub struct Told8 {
@@ -19,6 +22,14 @@ pub struct Told8 {
 pub struct Settled8 {
     pub notice: Notice,
     pub book: [Record; 8],
+}
+
+// Eight records before any setup.
+pub fn blank() -> [Record; 8]
+    ensures { λ r. ⌜ r ≡ blankRecords ⌝ }
+{
+    let one = zero::record();
+    [one; 8]
 }
 
 // Sets up the first n stocks.

@@ -30,8 +30,9 @@ pub(crate) fn answer_of(number: u32, s: Stock) -> Answer
             },
         };
     }
-    let bands = quotes::bands_in(s);
-    let best = quotes::best_of(s);
+    let shown = quotes::show(s);
+    let bands = shown.bands;
+    let best = shown.best;
     Answer {
         number,
         state: s.course.state,

@@ -1,23 +1,14 @@
 use borrow.Author.Needs.{needs}
-use Prim.Native.Nat.{ℕ}
-use mathlib.Core.Bool.{Bool}
-use mathlib.Core.Path.{_≡_}
-use Rattle.band.specs.declared.Limits.{Limits}
-use Rattle.rules.specs.Quotes.{inForce, bandsIn, bestBid, bestOffer, bidFlag, offerFlag, bestOf}
+use mathlib.Core.Path.{_≡_, ap}
+use Rattle.rules.specs.Quotes.{bestOf}
 use Rattle.rules.specs.declared.Stock.{Stock}
-use Rattle.rules.specs.declared.Best.{Best}
+use Rattle.quotes.specs.Shown.{shownOf}
+use Rattle.quotes.specs.declared.Shown.{Shown}
 use Rattle.quotes.proofs.best_of.Statement.{statement}
 use Rattle.quotes.proofs.best_of.Tie as tie
 
-put : (s : Stock) (on : Bool) (bands : Limits) (bid offer b o : ℕ) → on ≡ inForce s → bands ≡ bandsIn s
-    → bid ≡ bestBid on (bands .upper) (s .quotes .bids) → offer ≡ bestOffer on (bands .lower) (s .quotes .offers)
-    → b ≡ bidFlag on bands bid → o ≡ offerFlag on bands offer
-    → _≡_ {A = Best} (record { bid = record { price = bid; flag = b }; offer = record { price = offer; flag = o } }) (bestOf s)
-unfolding bestOf
-put s on bands bid offer b o e1 e2 e3 e4 e5 e6 = simp (e6, e5, e4, e3, e2, e1)
+best : (s : Stock) (r : Shown) → r ≡ shownOf s → r .best ≡ bestOf s
+best s r e = ap (λ x. x .best) e
 
 pub best-of-spec : {M : Type 1} → statement M
-best-of-spec =
-    tie.close
-    (tie.spec (λ c κs. search needs) (λ c κs. search needs) (λ c κs. search needs) (λ c κs. search needs) (λ c κs. search needs)
-    (λ c κs. search needs) (λ c. search put))
+best-of-spec = tie.close (tie.spec (λ c κs. search needs) (λ c. search best))

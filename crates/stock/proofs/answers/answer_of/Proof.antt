@@ -7,13 +7,12 @@ use lib.Dec.{eqb}
 use Rattle.forms.specs.Choice.{anyOf}
 use Rattle.forms.proofs.Choice.{if-true, if-false}
 use Rattle.forms.proofs.Bools.{joined}
-use Rattle.band.specs.declared.Limits.{Limits}
 use Rattle.rules.specs.Stock.{stateOf}
-use Rattle.rules.specs.Quotes.{bandsIn, bestOf}
 use Rattle.rules.specs.Numbers.{zeros, answer}
 use Rattle.rules.specs.declared.Answer.{Answer}
-use Rattle.rules.specs.declared.Best.{Best}
 use Rattle.rules.specs.declared.Stock.{Stock}
+use Rattle.quotes.specs.Shown.{shownOf}
+use Rattle.quotes.specs.declared.Shown.{Shown}
 use Rattle.stock.proofs.answers.answer_of.Statement.{statement}
 use Rattle.stock.proofs.answers.answer_of.Tie as tie
 
@@ -25,10 +24,10 @@ module _ (n : ℕ) (s : Stock) where
   unfolding answer
   blank e = simp (tested true e, if-true)
 
-  shown : (bands : Limits) (best : Best) → ((eqb n 1 || eqb n 2) || eqb n 3) ≡ false → bands ≡ bandsIn s → best ≡ bestOf s
-      → _≡_ {A = Answer} (record { number = n; state = stateOf s; reference = s .reference .price; bands = bands; best = best }) (answer n s)
+  shown : (r : Shown) → ((eqb n 1 || eqb n 2) || eqb n 3) ≡ false → r ≡ shownOf s
+      → _≡_ {A = Answer} (record { number = n; state = stateOf s; reference = s .reference .price; bands = r .bands; best = r .best }) (answer n s)
   unfolding answer
-  shown bands best e f g = simp (tested false e, if-false, f, g)
+  shown r e f = simp (tested false e, if-false, f)
 
 returns : tie.Need-returns
 returns c = search blank
@@ -37,4 +36,4 @@ returns-2 : tie.Need-returns-2
 returns-2 c = search shown
 
 pub answer-of-spec : {M : Type 1} → statement M
-answer-of-spec = tie.close (tie.spec returns (λ c κs. search needs) (λ c κs. search needs) returns-2)
+answer-of-spec = tie.close (tie.spec returns (λ c κs. search needs) returns-2)

@@ -1,0 +1,16 @@
+use lib.Seq.{length-take-le}
+use borrow.Author.Needs.{needs}
+use Rattle.day.proofs.flow.flush.Statement.{statement}
+use Rattle.day.proofs.flow.flush.Tie as tie
+
+slice-aggregate-write-all : tie.Need-slice-aggregate-write-all
+slice-aggregate-write-all c = search (needs, length-take-le)
+
+write-all-requires : tie.Need-write-all-requires
+write-all-requires c κs = search needs
+
+returns : tie.Need-returns
+returns c = search needs
+
+pub flush-spec : {M : Type 1} → statement M
+flush-spec = tie.close (tie.spec slice-aggregate-write-all write-all-requires returns)

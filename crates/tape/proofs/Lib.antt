@@ -1,0 +1,4 @@
+pub mod Printing
+pub mod Scanning
+pub mod Feeds
+pub mod Laws

@@ -1,0 +1,50 @@
+//! `ties` reads a day from standard input and prints each tie of two moments, a pair of marks a line:
+//! the moment about to happen and another due at that very time, which happens next or, after z, never.
+
+use std::io;
+
+use second::lines::{self, Input};
+use second::{settle, setup, Message, Stock};
+
+fn main() {
+    // A bad line ends the day, and what came before it counts.
+    let _ = replay(&mut Input::new(io::stdin().lock()));
+}
+
+/// Plays a day as far as it can be read.
+fn replay(input: &mut Input<impl io::Read>) -> Option<()> {
+    let contents = input.next_line().and_then(lines::contents)?;
+    let mut setups = Vec::new();
+    for _ in 0..contents.stocks {
+        setups.push(input.next_line().and_then(lines::stock)?);
+    }
+    let mut book = setup(&setups, contents.end).ok()?;
+    for _ in 0..contents.messages {
+        let message = input.next_line().and_then(lines::message)?;
+        settle_and_tell(&mut book, &message);
+    }
+    Some(())
+}
+
+fn settle_and_tell(book: &mut [Stock], m: &Message) {
+    loop {
+        let due = match book.get(m.stock as usize) {
+            Some(stock) => stock.moments(),
+            None => Vec::new(),
+        };
+        if settle(book, m.stock, m.time).answer.number != 0 {
+            break;
+        }
+        print_ties(&due);
+    }
+    second::tell(book, m);
+}
+
+/// The first of these moments happens now: prints it with each other one of its time.
+fn print_ties(due: &[(u8, u32)]) {
+    let (mark, time) = due[0];
+    let others = due.iter().skip(1).take_while(|other| other.1 == time);
+    for other in others {
+        println!("{} {}", mark as char, other.0 as char);
+    }
+}
