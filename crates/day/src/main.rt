@@ -323,8 +323,8 @@ fn lend(input: &mut [u8], output: &mut [u8], list: &[u32], contents: Contents, o
 }
 
 fn main() {
-    let mut input = io::large_buffer();
-    let mut output = io::large_buffer();
+    let mut input = [0u8; 32768];
+    let mut output = [0u8; 32768];
     let mut list = [0u32; 32];
     let flow = Flow {
         from: 0,
