@@ -159,7 +159,7 @@ pub(crate) fn next_line(input: &mut [u8], output: &[u8], flow: Flow) -> Taken
     ensures { λ r. ⌜ Within (r .flow) (length (now (input .entry))) (length (now (output .entry))) ⌝ }
 {
     let mut f = flow;
-    for turn in 0..LONGEST {
+    for turn in 0..LONGEST + 1 {
         let seen = look(input, f.from, f.to);
         if seen.found {
             return found(seen.line, seen.next, f);

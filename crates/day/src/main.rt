@@ -6,6 +6,7 @@ ghost use mathlib.Core.Path.{_≡_};
 ghost use Prim.Native.Nat.{_≤_, _<_};
 ghost use lib.ListN.{length};
 ghost use Rattle.day.specs.Flow.{Within, Same, Underway};
+ghost use Rattle.day.specs.Spoken.{spokenOf};
 use flow::Flow;
 use rules::Message;
 use rules::Moment;
@@ -16,10 +17,19 @@ use tape::Line;
 // The most stocks that a day has.
 const MOST_STOCKS: u32 = 8;
 
+// What a line says of a message.
+enum Spoken {
+    Said { message: Message },
+    Nothing,
+}
+
 // How far the day has been read.
 struct Day {
-    // the message that is next; where the day goes on
-    line: Line,
+    // the message that is next, where the day goes on
+    letter: u8,
+    stock: u32,
+    time: u32,
+    message: Message,
     going: bool,
     // the number of the day's last line, and how many messages are still to be read
     last: u64,
@@ -90,30 +100,21 @@ fn enter(list: &mut [u32], i: u32, line: Line)
     list[at + 3] = numbers[3];
 }
 
-fn wide(x: u32) -> u64 {
-    x as u64
-}
-
 // The letter of a mark.
 fn mark_of(moment: Moment) -> u8 {
     (moment.mark % 256) as u8
 }
 
-fn is_message(letter: u8) -> bool {
-    match letter {
-        b'T' | b'Q' | b'O' | b'P' | b'R' | b'X' => true,
-        _ => false,
-    }
-}
-
-// The message of a line that is one.
-fn message_of(line: Line) -> Message {
+// The message of a line, if it is one.
+fn heard(line: Line) -> Spoken
+    ensures { λ r. ⌜ r ≡ spokenOf (line .numbers) (line .letter) ⌝ }
+{
     let letter = line.letter;
     let numbers = line.numbers;
     let time = numbers[1];
     let participant = numbers[2];
     let price = numbers[3];
-    match letter {
+    let message = match letter {
         b'T' => Message::Trade {
             time,
             price: numbers[2],
@@ -135,12 +136,14 @@ fn message_of(line: Line) -> Message {
             participant,
             price,
         },
-        _ => Message::Closing {
+        b'X' => Message::Closing {
             time,
             participant,
             price,
         },
-    }
+        _ => return Spoken::Nothing,
+    };
+    Spoken::Said { message }
 }
 
 // Writes what is complete, and then which line cannot be read.
@@ -159,9 +162,15 @@ fn bad(output: &[u8], f: Flow, line: u64)
 fn ended(last: u64, flow: Flow) -> Day
     ensures { λ r. ⌜ (r .last ≡ last) × (r .left ≡ 0) × Same (r .flow) flow ⌝ }
 {
-    let line = flow::unread();
+    let message = Message::Pause {
+        time: 0,
+        participant: 0,
+    };
     Day {
-        line,
+        letter: 0,
+        stock: 0,
+        time: 0,
+        message,
         going: false,
         last,
         left: 0,
@@ -182,10 +191,15 @@ fn next_message(input: &mut [u8], output: &[u8], last: u64, left: u32, flow: Flo
     let taken = flow::next_line(input, output, flow);
     let line = taken.line;
     let behind = taken.flow;
-    if is_message(line.letter) {
+    let said = heard(line);
+    if let Spoken::Said { message } = said {
+        let numbers = line.numbers;
         return Day {
-            line,
-            going: true,
+            letter: line.letter,
+            stock: numbers[0],
+            time: numbers[1],
+            message,
+            going: behind.live,
             last,
             left: left - 1,
             flow: behind,
@@ -200,9 +214,12 @@ fn next_message(input: &mut [u8], output: &[u8], last: u64, left: u32, flow: Flo
 fn with_flow(d: Day, flow: Flow) -> Day
     ensures { λ r. ⌜ (r .last ≡ d .last) × (r .left ≡ d .left) × Same (r .flow) flow ⌝ }
 {
-    let line = d.line;
+    let message = d.message;
     Day {
-        line,
+        letter: d.letter,
+        stock: d.stock,
+        time: d.time,
+        message,
         going: d.going & flow.live,
         last: d.last,
         left: d.left,
@@ -229,12 +246,9 @@ fn play(
         if !d.going {
             return;
         }
-        let line = d.line;
+        let stock = d.stock;
         let flow = d.flow;
-        let numbers = line.numbers;
-        let stock = numbers[0];
-        let time = numbers[1];
-        let settled = shelf::settle(book, n, times, prices, stock, time);
+        let settled = shelf::settle(book, n, times, prices, stock, d.time);
         let notice = settled.notice;
         let answer = notice.answer;
         if answer.number == 0 {
@@ -245,9 +259,9 @@ fn play(
             d = with_flow(d, after);
             continue;
         }
-        let message = message_of(line);
+        let message = d.message;
         let told = shelf::tell(book, n, times, prices, stock, message);
-        let after = flow::put(output, flow, stock, wide(time), line.letter, told.answer);
+        let after = flow::put(output, flow, stock, d.time as u64, d.letter, told.answer);
         let next = told.book;
         book = next;
         d = next_message(input, output, d.last, d.left, after);

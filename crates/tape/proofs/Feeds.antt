@@ -32,10 +32,10 @@ feed-behind [] rest e = refl
 feed-behind (c ∷ text) rest e =
     ap (λ b. indexAfter b (indexOf 10 (text ++ 10 ∷ rest))) (not-true (eqb c 10) (all-head _ _ e)) ∙ ap suc (feed-behind text rest (all-tail _ _ e))
 
-every-append : (xs ys : List ℕ) → every other xs ≡ true → every other ys ≡ true → every other (xs ++ ys) ≡ true
+pub every-append : (f : ℕ → Bool) (xs ys : List ℕ) → every f xs ≡ true → every f ys ≡ true → every f (xs ++ ys) ≡ true
 unfolding every
-every-append [] ys e f = f
-every-append (x ∷ xs) ys e f = all-yes _ _ (all-head _ _ e) (every-append xs ys (all-tail _ _ e) f)
+every-append f [] ys e g = g
+every-append f (x ∷ xs) ys e g = all-yes _ _ (all-head _ _ e) (every-append f xs ys (all-tail _ _ e) g)
 
 others : (c : ℕ) → (c ≡ 10 → ⊥) → other c ≡ true
 others c h = ne-not c 10 h
@@ -51,7 +51,7 @@ words-other : (ws : List (List ℕ)) → every isNumber ws ≡ true → every ot
 unfolding every parted
 words-other [] e = all-empty
 words-other (w ∷ ws) e =
-    all-yes _ _ (others 32 (λ q. absurd (omega arith))) (every-append w (parted ws) (digits-other w (all-digits w (all-head _ _ e))) (words-other ws (all-tail _ _ e)))
+    all-yes _ _ (others 32 (λ q. absurd (omega arith))) (every-append other w (parted ws) (digits-other w (all-digits w (all-head _ _ e))) (words-other ws (all-tail _ _ e)))
 
 feed-letter : (letter : ℕ) → 0 < numbersAfter letter → letter ≡ 10 → ⊥
 unfolding numbersIn if_then_else_

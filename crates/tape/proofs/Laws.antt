@@ -9,20 +9,20 @@ use native.Mathlib.Omega.{arith}
 use borrow.Author.Tests.{le-leb}
 use lib.ListN.{length, take, replicate, length-append, length-map}
 use lib.Seq.{take-at}
-use Rattle.forms.specs.Choice.{if_then_else_, allOf}
+use Rattle.forms.specs.Choice.{if_then_else_, allOf, anyOf}
 use Rattle.forms.specs.Tables.{every}
 use Rattle.forms.proofs.Choice.{all-head, all-tail, all-yes, all-empty}
 use Rattle.forms.proofs.Promises.{agree}
-use Rattle.tape.specs.Lines.{isDigit, further, spelt, isNumber, parted, lineOf, unread, Reads, toFeed}
+use Rattle.tape.specs.Lines.{isDigit, further, spelt, isNumber, parted, numbersIn, lineOf, unread, Reads, toFeed}
 use Rattle.tape.specs.Lines.Reads.{a-line, no-line}
 use Rattle.tape.specs.Printing.{decimal, digits, ahead, printed, printing}
-use Rattle.tape.specs.Scanning.{scanned}
-use Rattle.tape.specs.Examples.{right, words, FirstLine}
+use Rattle.tape.specs.Scanning.{opened, lengthened, digit, step, place, finished, scanned}
+use Rattle.tape.specs.Examples.{right, words, AllRead, lines, FirstLine}
 use Rattle.tape.specs.Laws.{ReadsBack, OneWay, NoLonger, Laws}
 use Rattle.tape.specs.declared.Line.{Line}
 use Rattle.tape.proofs.Printing.{low, high, tenth, below-or-not}
 use Rattle.tape.proofs.Scanning.{is-number, ten-digits, at-most-five, scanned-line, reads}
-use Rattle.tape.proofs.Feeds.{line-ends}
+use Rattle.tape.proofs.Feeds.{every-append, line-ends}
 
 -- ------------------------------------------------------------------ what printing wrote is read back
 
@@ -52,11 +52,6 @@ decimal-few (suc most) (suc k) n h l =
     more zero n h m = absurd (omega arith)
     more (suc k) n h m = omega arith
 
-every-snoc : (w : List ℕ) (c : ℕ) → every isDigit w ≡ true → isDigit c ≡ true → every isDigit (w ++ (c ∷ [])) ≡ true
-unfolding every
-every-snoc [] c e f = all-yes _ _ f all-empty
-every-snoc (d ∷ w) c e f = all-yes _ _ (all-head _ _ e) (every-snoc w c (all-tail _ _ e) f)
-
 a-digit : (d : ℕ) → d < 10 → isDigit (48 + d) ≡ true
 unfolding isDigit
 a-digit d h = all-yes _ _ (le-leb 48 (48 + d) (omega arith)) (all-yes _ _ (le-leb (48 + d) 57 (omega arith)) all-empty)
@@ -66,7 +61,7 @@ unfolding decimal every
 decimal-digits zero n = all-empty
 decimal-digits (suc most) n =
     below-or-not n (λ l. rw (low most n l) (all-yes _ _ (a-digit n l) all-empty))
-    (λ k. rw (high most n k) (every-snoc (decimal most (n / 10)) (48 + n % 10) (decimal-digits most (n / 10)) (a-digit (n % 10) (mod-lt n (omega arith)))))
+    (λ k. rw (high most n k) (every-append isDigit (decimal most (n / 10)) ((48 + n % 10) ∷ []) (decimal-digits most (n / 10)) (all-yes _ _ (a-digit (n % 10) (mod-lt n (omega arith))) all-empty)))
 
 decimal-some : (most n : ℕ) → 1 ≤ length (decimal (suc most) n)
 decimal-some most n = below-or-not n (λ l. rw (low most n l) (omega arith)) (λ k. rw (high most n k, length-append) (omega arith))
@@ -114,6 +109,10 @@ words-are-right : every right words ≡ true
 unfolding every right isNumber isDigit spelt further allOf if_then_else_
 words-are-right = refl
 
+lines-are-read : AllRead lines
+unfolding scanned finished step opened digit lengthened place numbersIn further anyOf if_then_else_
+lines-are-read = (reads _, (reads _, (reads _, (reads _, (reads _, (reads _, (reads _, (reads _, (reads _, (reads _, (reads _, (reads _, (reads _, (reads _, tt))))))))))))))
+
 first-line : FirstLine
 unfolding printed ahead parted digits decimal if_then_else_
 first-line = refl
@@ -127,6 +126,7 @@ laws = record {
   ends-there = line-ends;
   no-longer = no-longer;
   words-are-right = words-are-right;
+  lines-are-read = lines-are-read;
   first-line = first-line;
   read-determined = λ text r s p q. read-scanned text r p ∙ sym (read-scanned text s q);
   feed-determined = λ text. agree (toFeed text);

@@ -43,16 +43,13 @@ closed-line letter at r ns e f = rw (f, e)
 
 -- ------------------------------------------------------------------ how far a line has been read
 
--- some numbers were read, and one is open, of so many digits
-abbrev midway : List ℕ → ℕ → ℕ → Reading
-midway ns v k = record {
-  scan = record { good = true; count = length ns + 1; digits = k; value = v };
-  numbers = ns ++ replicate (5 - length ns) 0;
-}
-
 -- numbers, with zeros behind them
 abbrev padded : List ℕ → List ℕ
 padded ns = ns ++ replicate (5 - length ns) 0
+
+-- some numbers were read, and one is open, of so many digits
+abbrev midway : List ℕ → ℕ → ℕ → Reading
+midway ns v k = record { scan = record { good = true; count = length ns + 1; digits = k; value = v }; numbers = padded ns }
 
 length-snoc : (ns : List ℕ) (v : ℕ) → length (ns ++ (v ∷ [])) ≡ suc (length ns)
 length-snoc ns v = rw (length-append ns (v ∷ [])) (omega arith)

@@ -1,4 +1,4 @@
--- Words and a line at the edges of what is read and printed, computed (document 01, "The day program").
+-- Words and lines at the edges of what is read and printed, computed (document 01, "The day program").
 -- Assumes nothing.
 use Prim.Native.Nat.{ℕ}
 use mathlib.Core.Bool.{Bool, true, false, not}
@@ -6,8 +6,9 @@ use mathlib.Core.List.{List, [], _∷_}
 use mathlib.Core.Path.{_≡_}
 use lib.Dec.{eqb}
 use Rattle.forms.specs.Choice.{if_then_else_, allOf}
-use Rattle.tape.specs.Lines.{isNumber, spelt}
+use Rattle.tape.specs.Lines.{isNumber, spelt, unread, Reads}
 use Rattle.tape.specs.Printing.{printed}
+use Rattle.tape.specs.declared.Line.{Line}
 
 -- ------------------------------------------------------------------ words
 
@@ -34,7 +35,38 @@ words =
     ∷ number (52 ∷ 50 ∷ 57 ∷ 52 ∷ 57 ∷ 54 ∷ 55 ∷ 50 ∷ 57 ∷ 53 ∷ []) 4_294_967_295 ∷ none [] ∷ none (52 ∷ 50 ∷ 57 ∷ 52 ∷ 57 ∷ 54 ∷ 55 ∷ 50 ∷ 57 ∷ 54 ∷ [])
     ∷ none (48 ∷ 48 ∷ 48 ∷ 48 ∷ 48 ∷ 48 ∷ 48 ∷ 48 ∷ 48 ∷ 48 ∷ 55 ∷ []) ∷ none (49 ∷ 47 ∷ []) ∷ none (49 ∷ 58 ∷ []) ∷ none (43 ∷ 49 ∷ []) ∷ []
 
--- ------------------------------------------------------------------ a line
+-- ------------------------------------------------------------------ lines that are read
+
+-- a text, and what is read in it
+pub record Example : Type 0 where
+  pub text : List ℕ
+  pub line : Line
+
+-- each is read so
+abbrev pub AllRead : List Example → Type 0
+AllRead [] = Unit {0}
+AllRead (e ∷ es) = Reads (e .text) (e .line) × AllRead es
+
+-- `C 1 7 23400000`, `S 2 1 2 115000`, `T 0 5000 92000`, `Q 0 2000 5 114900 115100`, `O 0 1000 2 115000`, `P 0 5000 2`, `R 0 319000 2 95000`, `X 0 5000 2 7`;
+-- and no lines: `Q 0 2000 5 114900`, `T 0 5000 92000 1`, `t 0 5000 92000`, `T  0 5000 92000`, `T 0 5000 92000 `, `T`
+abbrev pub lines : List Example
+lines =
+    record { text = (67 ∷ 32 ∷ 49 ∷ 32 ∷ 55 ∷ 32 ∷ 50 ∷ 51 ∷ 52 ∷ 48 ∷ 48 ∷ 48 ∷ 48 ∷ 48 ∷ []); line = record { letter = 67; numbers = 1 ∷ 7 ∷ 23_400_000 ∷ 0 ∷ 0 ∷ [] } }
+    ∷ record { text = (83 ∷ 32 ∷ 50 ∷ 32 ∷ 49 ∷ 32 ∷ 50 ∷ 32 ∷ 49 ∷ 49 ∷ 53 ∷ 48 ∷ 48 ∷ 48 ∷ []); line = record { letter = 83; numbers = 2 ∷ 1 ∷ 2 ∷ 115_000 ∷ 0 ∷ [] } }
+    ∷ record { text = (84 ∷ 32 ∷ 48 ∷ 32 ∷ 53 ∷ 48 ∷ 48 ∷ 48 ∷ 32 ∷ 57 ∷ 50 ∷ 48 ∷ 48 ∷ 48 ∷ []); line = record { letter = 84; numbers = 0 ∷ 5_000 ∷ 92_000 ∷ 0 ∷ 0 ∷ [] } }
+    ∷ record { text = (81 ∷ 32 ∷ 48 ∷ 32 ∷ 50 ∷ 48 ∷ 48 ∷ 48 ∷ 32 ∷ 53 ∷ 32 ∷ 49 ∷ 49 ∷ 52 ∷ 57 ∷ 48 ∷ 48 ∷ 32 ∷ 49 ∷ 49 ∷ 53 ∷ 49 ∷ 48 ∷ 48 ∷ []); line = record { letter = 81; numbers = 0 ∷ 2_000 ∷ 5 ∷ 114_900 ∷ 115_100 ∷ [] } }
+    ∷ record { text = (79 ∷ 32 ∷ 48 ∷ 32 ∷ 49 ∷ 48 ∷ 48 ∷ 48 ∷ 32 ∷ 50 ∷ 32 ∷ 49 ∷ 49 ∷ 53 ∷ 48 ∷ 48 ∷ 48 ∷ []); line = record { letter = 79; numbers = 0 ∷ 1_000 ∷ 2 ∷ 115_000 ∷ 0 ∷ [] } }
+    ∷ record { text = (80 ∷ 32 ∷ 48 ∷ 32 ∷ 53 ∷ 48 ∷ 48 ∷ 48 ∷ 32 ∷ 50 ∷ []); line = record { letter = 80; numbers = 0 ∷ 5_000 ∷ 2 ∷ 0 ∷ 0 ∷ [] } }
+    ∷ record { text = (82 ∷ 32 ∷ 48 ∷ 32 ∷ 51 ∷ 49 ∷ 57 ∷ 48 ∷ 48 ∷ 48 ∷ 32 ∷ 50 ∷ 32 ∷ 57 ∷ 53 ∷ 48 ∷ 48 ∷ 48 ∷ []); line = record { letter = 82; numbers = 0 ∷ 319_000 ∷ 2 ∷ 95_000 ∷ 0 ∷ [] } }
+    ∷ record { text = (88 ∷ 32 ∷ 48 ∷ 32 ∷ 53 ∷ 48 ∷ 48 ∷ 48 ∷ 32 ∷ 50 ∷ 32 ∷ 55 ∷ []); line = record { letter = 88; numbers = 0 ∷ 5_000 ∷ 2 ∷ 7 ∷ 0 ∷ [] } }
+    ∷ record { text = (81 ∷ 32 ∷ 48 ∷ 32 ∷ 50 ∷ 48 ∷ 48 ∷ 48 ∷ 32 ∷ 53 ∷ 32 ∷ 49 ∷ 49 ∷ 52 ∷ 57 ∷ 48 ∷ 48 ∷ []); line = unread }
+    ∷ record { text = (84 ∷ 32 ∷ 48 ∷ 32 ∷ 53 ∷ 48 ∷ 48 ∷ 48 ∷ 32 ∷ 57 ∷ 50 ∷ 48 ∷ 48 ∷ 48 ∷ 32 ∷ 49 ∷ []); line = unread }
+    ∷ record { text = (116 ∷ 32 ∷ 48 ∷ 32 ∷ 53 ∷ 48 ∷ 48 ∷ 48 ∷ 32 ∷ 57 ∷ 50 ∷ 48 ∷ 48 ∷ 48 ∷ []); line = unread }
+    ∷ record { text = (84 ∷ 32 ∷ 32 ∷ 48 ∷ 32 ∷ 53 ∷ 48 ∷ 48 ∷ 48 ∷ 32 ∷ 57 ∷ 50 ∷ 48 ∷ 48 ∷ 48 ∷ []); line = unread }
+    ∷ record { text = (84 ∷ 32 ∷ 48 ∷ 32 ∷ 53 ∷ 48 ∷ 48 ∷ 48 ∷ 32 ∷ 57 ∷ 50 ∷ 48 ∷ 48 ∷ 48 ∷ 32 ∷ []); line = unread }
+    ∷ record { text = (84 ∷ []); line = unread } ∷ []
+
+-- ------------------------------------------------------------------ a line that is printed
 
 -- `0 1000 O 0 1 115000 92000 138000 0 0 0 0`, the first line that document 01's day prints
 abbrev pub FirstLine : Type 0

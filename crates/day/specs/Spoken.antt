@@ -1,0 +1,24 @@
+-- Which message a line is (document 01, "The day program").
+-- Assumes nothing.
+use Prim.Native.Nat.{ℕ}
+use mathlib.Core.List.{List}
+use lib.Dec.{eqb}
+use lib.ListN.{getD}
+use Rattle.forms.specs.Choice.{if_then_else_}
+use Rattle.rules.specs.declared.Message.the-variants.{Trade, Quote, Opening, Pause, Reopening, Closing}
+use Rattle.day.specs.declared.Spoken.{Spoken}
+use Rattle.day.specs.declared.Spoken.the-variants.{Said, Nothing}
+
+-- "letter, stock, time, and after these for T the price, for Q participant, bid and offer, for P the participant, for O, R and X participant
+-- and price", by the line's numbers and the code of its letter; any other letter begins no message
+unfoldable pub spokenOf : List ℕ → ℕ → Spoken
+spokenOf numbers letter =
+    let time = getD numbers 1 0 in
+    let third = getD numbers 2 0 in
+    let fourth = getD numbers 3 0 in
+    if eqb letter 84 then Said (Trade time third) else
+    if eqb letter 81 then Said (Quote time third fourth (getD numbers 4 0)) else
+    if eqb letter 79 then Said (Opening time third fourth) else
+    if eqb letter 80 then Said (Pause time third) else
+    if eqb letter 82 then Said (Reopening time third fourth) else
+    if eqb letter 88 then Said (Closing time third fourth) else Nothing
