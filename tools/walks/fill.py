@@ -67,16 +67,8 @@ def turn():
     w.front("tokens", "lent")
     w.use(2, ["pre"], "raw (Step 𝓤 H A at-mem run .pre (to-made i))", "goes-made i fits (four-more i n (length (x₁ .now)) small enough)")
     w.lam(f"calls-at ! (fmOf 𝓤 H (W .laws) 𝓣) (Step 𝓤 H A at-mem run) known (to-made i) {w.opds(w.load(LIST), w.load(END), w.load(I))} (λ v.")
-    w.use(1, ["post"], "later (some (λ (r : Record). (tokens ⊛ ‵ (T.the-row .own r (v ∷ []))) ⊛ raw (ensured 𝓤 H A g.ended (g.clauses 𝓤 H A at-mem run) (κ₁, tt) (x′ i) tt r)))", "id⊢ 𝓤 _")
-    w.add("await ! tt $")
-    w.lam("pick ! (λ r.")
-    w.split("result", "said")
-    w.front("said")
-    w.use(1, ["said"], "raw (fact 𝓤 (r ≡ made i))", "said i r")
-    w.lam("heard ! (r ≡ made i) (λ e.")
-    w.put(1)
-    w.split("tokens", "given")
-    w.struct_given("T", "is₀", "is", RECORD, local(RECORD))
+    post = "later (some (λ (r : Record). (tokens ⊛ ‵ (T.the-row .own r (v ∷ []))) ⊛ raw (ensured 𝓤 H A g.ended (g.clauses 𝓤 H A at-mem run) (κ₁, tt) (x′ i) tt r)))"
+    w.called(post, "r ≡ made i", "said i r", "tokens", "T", RECORD, local(RECORD))
     fits = "record { fits = bytes n (mem T.the-row .size) i (room₀ .1) small }"
     w.set(NUMBER, f"bin ! {w.load(I)} (lit ! tt) ({fits})", f"(tt, {fits})")
     w.set(PLACE, f"bin ! {w.load(BOOK, 0)} {w.load(NUMBER)} tt", "(tt, tt)")

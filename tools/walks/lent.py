@@ -73,6 +73,15 @@ def enter(w, values, locals_, typings):
     w.add("pass0 ! $")
 
 
+def lent_book(values, locals_, typings):
+    """the opening of a function that is lent a book, two arrays and a stock's number, and takes further values"""
+    w = Walk(["toks", "owns"])
+    apart(w, slice_)
+    rooms = [slice_typed(f"room{sub(k)}") for k in range(3)]
+    enter(w, ["s₀", "s₁", "s₂", "vint w32 i", *values], locals_, [*rooms, number_typed("i-is .1"), *typings])
+    return w
+
+
 # ---------------------------------------------------------------- calls
 
 
@@ -220,9 +229,7 @@ def one(p):
 
 def book(p):
     """GUARD let d = STEP(book[i], times, prices, i, v); book[i] = d.next; d.ANSWER"""
-    w = Walk(["toks", "owns"])
-    apart(w, slice_)
-    enter(w, ["s₀", "s₁", "s₂", "vint w32 i", p["val"]], 20, [slice_typed(f"room{sub(k)}") for k in range(3)] + [number_typed("i-is .1"), p["typed"]])
+    w = lent_book([p["val"]], 20, [p["typed"]])
     guard(w, p, "_6", "_7", ["_9", "_10", "_11"], "_12", "refuses n r v is c bad z")
     w.front("obs", "borrow", "token")
     w.lam(f"opens-slice ! tt T.the-row ys b o $ elem-out ! {LAWS} fullShare ys i noRecord b o {INSIDE} (λ is-one.")
@@ -245,9 +252,7 @@ def book(p):
 
 def read(p):
     """GUARD read_at(book[i], times, prices, i)"""
-    w = Walk(["toks", "owns"])
-    apart(w, slice_)
-    enter(w, ["s₀", "s₁", "s₂", "vint w32 i"], 13, [slice_typed(f"room{sub(k)}") for k in range(3)] + [number_typed("i-is .1")])
+    w = lent_book([], 13, [])
     guard(w, p, "_5", "_6", ["_7", "_8", "_9"], "_10", "exits r v is (unread-in i n was r c bad z)")
     w.front("borrow", "token")
     w.lam(f"looks-slice ! tt {LAWS} (LL.copy T.the-type T′.the-copy 𝓤 H A W) ys b o (λ q′. elem-out ! {LAWS} q′ ys i noRecord b o {INSIDE} (λ is-one.")

@@ -67,16 +67,8 @@ def judge(w):
     w.front("token3", "list")
     w.use(2, ["pre"], "raw (Judged 𝓤 H A at-mem run .pre to-judged)", "goes-judged")
     w.lam(f"calls-at ! fm (Judged 𝓤 H A at-mem run) known-judged to-judged {w.opds(*map(w.load, LENGTHS), w.load(END), w.load(LIST))} (λ v.")
-    w.use(1, ["post"], "later (some (λ (r : Answer). (T₃ ⊛ ‵ (N.the-row .own r (v ∷ []))) ⊛ raw (ensured 𝓤 H A j.ended (j.clauses 𝓤 H A at-mem run) (κ₃, tt) xj tt r)))", "id⊢ 𝓤 _")
-    w.add("await ! tt $")
-    w.lam("pick ! (λ r.")
-    w.split("result", "said")
-    w.front("said")
-    w.use(1, ["said"], "raw (fact 𝓤 (r ≡ zeros number))", "said-judged r")
-    w.lam("heard ! (r ≡ zeros number) (λ e.")
-    w.put(1)
-    w.split("token3", "given")
-    w.struct_given("N", "is₀", "is", ANSWER, "l₆")
+    post = "later (some (λ (r : Answer). (T₃ ⊛ ‵ (N.the-row .own r (v ∷ []))) ⊛ raw (ensured 𝓤 H A j.ended (j.clauses 𝓤 H A at-mem run) (κ₃, tt) xj tt r)))"
+    w.called(post, "r ≡ zeros number", "said-judged r", "token3", "N", ANSWER, "l₆")
     w.set(TEST, f"bin ! {w.load(ANSWER, 0)} (lit ! tt) tt", "(tt, tt)")
     w.add(f"guarded ! {w.load(TEST)}")
 

@@ -10,7 +10,7 @@ use Rattle.day.specs.declared.Spoken.{Spoken}
 use Rattle.day.specs.declared.Spoken.the-variants.{Said, Nothing}
 
 -- "letter, stock, time, and after these for T the price, for Q participant, bid and offer, for P the participant, for O, R and X participant
--- and price", by the line's numbers and the code of its letter; any other letter begins no message
+-- and price", by the line's numbers and the code of its letter, in this order: T, Q, O, P, R, X; any other letter begins no message
 unfoldable pub spokenOf : List ℕ → ℕ → Spoken
 spokenOf numbers letter =
     let time = getD numbers 1 0 in

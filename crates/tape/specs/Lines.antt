@@ -42,12 +42,13 @@ pub record Row : Type 0 where
   pub numbers : ℕ
 
 -- "`C stocks messages E`", "`S tier leverage primary close`"; "letter, stock, time, and after these for T the price, for Q participant,
--- bid and offer, for P the participant, for O, R and X participant and price"
+-- bid and offer, for P the participant, for O, R and X participant and price". The codes are those of C, S, T, Q, O, P, R and X
 abbrev pub table : List Row
 table =
     record { letter = 67; numbers = 3 } ∷ record { letter = 83; numbers = 4 } ∷ record { letter = 84; numbers = 3 } ∷ record { letter = 81; numbers = 5 }
     ∷ record { letter = 79; numbers = 4 } ∷ record { letter = 80; numbers = 3 } ∷ record { letter = 82; numbers = 4 } ∷ record { letter = 88; numbers = 4 } ∷ []
 
+-- what the row of a letter says, 0 where it has none
 unfoldable pub numbersIn : List Row → ℕ → ℕ
 numbersIn [] letter = 0
 numbersIn (row ∷ rows) letter = if eqb letter (row .letter) then row .numbers else numbersIn rows letter
