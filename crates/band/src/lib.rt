@@ -8,6 +8,7 @@ ghost use Rattle.band.specs.Band.{percentOf, factorOf, spreadOf, cent, b
 const SMALL: u8 = 0;
 
 // A lower and an upper band: `Bands` would differ from `bands` in a letter's case alone.
+#[repr(C)]
 pub struct Limits {
     pub lower: u64,
     pub upper: u64,

@@ -1,0 +1,283 @@
+//! The cases: for each a book, how it comes to its start, and the calls that are timed from there.
+
+use second::{Letter, Message, Setup, Stock, HELD_AT_MOST, PARTICIPANTS};
+
+use crate::call::Call;
+
+const END: u32 = 23_400_000;
+const PRICE: u32 = 100_000;
+/// After every moment that is dated by the opening or by 900,000.
+const NOON: u32 = 1_000_000;
+/// As many calls as are timed in one stretch where the case itself does not say.
+const STRETCH: u32 = 1_024;
+
+/// What is timed, and from where.
+pub struct Case {
+    pub name: String,
+    pub setups: Vec<Setup>,
+    pub end: u32,
+    /// Brings the book, once set up, to its start.
+    pub before: Vec<Call>,
+    pub calls: Vec<Call>,
+    /// By how many a stretch's time is divided.
+    pub counted: usize,
+    /// Whether a pass over the held trades is a measure for it.
+    pub has_floor: bool,
+}
+
+/// Writes calls down while it plays them, so that later ones can depend on what became of the stock.
+struct Script {
+    book: Vec<Stock>,
+    calls: Vec<Call>,
+}
+
+impl Script {
+    fn tell(&mut self, m: Message) {
+        second::tell(&mut self.book, &m);
+        self.calls.push(Call::Tell(m));
+    }
+
+    fn settle(&mut self, stock: u32, time: u32) -> u32 {
+        self.calls.push(Call::Settle { stock, time });
+        second::settle(&mut self.book, stock, time).answer.number
+    }
+
+    /// Settles until nothing is due, then tells the message.
+    fn settle_and_tell(&mut self, m: Message) {
+        while self.settle(m.stock, m.time) == 0 {}
+        self.tell(m);
+    }
+
+    /// The calls so far, and none from now on.
+    fn cut(&mut self) -> Vec<Call> {
+        std::mem::take(&mut self.calls)
+    }
+}
+
+fn setups(stocks: u32) -> Vec<Setup> {
+    let setup = |stock| Setup {
+        tier: 1,
+        leverage: 1,
+        primary: stock % PARTICIPANTS as u32,
+        close: PRICE,
+    };
+    (0..stocks).map(setup).collect()
+}
+
+fn message(letter: Letter, stock: u32, time: u32, price: u32) -> Message {
+    Message {
+        letter,
+        stock,
+        time,
+        participant: stock % PARTICIPANTS as u32,
+        price,
+        bid: 0,
+        offer: 0,
+    }
+}
+
+fn quote(stock: u32, time: u32, participant: u32, bid: u32, offer: u32) -> Message {
+    Message {
+        participant,
+        bid,
+        offer,
+        ..message(Letter::Q, stock, time, 0)
+    }
+}
+
+/// The i-th quote of a series in which the best bid and the best offer keep changing.
+fn next_quote(i: u32, stock: u32, time: u32) -> Message {
+    let away = 100 * (1 + i * 7 % 23);
+    quote(stock, time, i % 16, PRICE - away, PRICE + 2 * away)
+}
+
+/// A book of stocks as they are set up.
+fn empty_book(stocks: u32) -> Script {
+    Script {
+        book: second::setup(&setups(stocks), END).expect("the setups are in range"),
+        calls: Vec::new(),
+    }
+}
+
+/// A book of stocks in Trading with all quotes and so many trades each, the last at the clock, and no moment due.
+fn book(stocks: u32, held: u32) -> Script {
+    let mut script = empty_book(stocks);
+    for stock in 0..stocks {
+        script.tell(message(Letter::O, stock, 1_000, PRICE));
+        script.settle_and_tell(next_quote(0, stock, NOON));
+        for i in 1..16 {
+            script.tell(next_quote(i, stock, NOON));
+        }
+        for i in 0..held {
+            script.tell(message(Letter::T, stock, NOON + i, PRICE + i * 37 % 200));
+        }
+    }
+    script
+}
+
+/// The case whose start the script was cut at, timed on the calls since.
+fn case(name: &str, before: Vec<Call>, mut script: Script) -> Case {
+    let calls = script.cut();
+    let stocks = script.book.len() as u32;
+    Case {
+        name: name.to_string(),
+        setups: setups(stocks),
+        end: END,
+        before,
+        counted: calls.len(),
+        has_floor: true,
+        calls,
+    }
+}
+
+fn quotes(stocks: u32, held: u32) -> Case {
+    let mut script = book(stocks, held);
+    let before = script.cut();
+    let time = NOON + held;
+    for i in 0..STRETCH.max(32 * stocks) {
+        script.tell(next_quote(i / stocks, i % stocks, time));
+    }
+    let name = match stocks {
+        1 => format!("quote, {held} held"),
+        _ => format!("quote to {stocks} stocks in turn, {held} held by each"),
+    };
+    Case {
+        has_floor: held > 0,
+        ..case(&name, before, script)
+    }
+}
+
+/// Four stocks, so that a stretch is long though each has room for few more.
+fn trades(from: u32) -> Case {
+    let mut script = book(4, from);
+    let before = script.cut();
+    for i in 0..128 {
+        let price = PRICE + i * 53 % 200;
+        script.tell(message(Letter::T, i % 4, NOON + from, price));
+    }
+    let name = format!("trade, {from} to {} held", from + 31);
+    case(&name, before, script)
+}
+
+fn nothing_due(held: u32) -> Case {
+    let mut script = book(1, held);
+    let before = script.cut();
+    for _ in 0..STRETCH {
+        script.settle(0, NOON + held);
+    }
+    Case {
+        has_floor: held > 0,
+        ..case(&format!("settle, nothing due, {held} held"), before, script)
+    }
+}
+
+fn reads(held: u32) -> Case {
+    let mut script = book(1, held);
+    let before = script.cut();
+    script.calls = vec![Call::Read { stock: 0 }; STRETCH as usize];
+    case(&format!("read, {held} held"), before, script)
+}
+
+/// Each call lets one trade leave, until none is held.
+fn leavings() -> Case {
+    let most = HELD_AT_MOST as u32;
+    let mut script = book(1, most);
+    let before = script.cut();
+    for i in 0..most {
+        script.settle(0, NOON + i + 300_000);
+    }
+    case("settle, a trade leaves, 512 to 1 held", before, script)
+}
+
+/// One participant alone bids nothing and offers at the lower band, then above it: Limit is entered, and left for the mean.
+fn limits() -> Case {
+    let most = HELD_AT_MOST as u32;
+    let (mut script, time) = (book(1, most), NOON + most);
+    for i in 0..16 {
+        script.tell(quote(0, time, i, 0, PRICE));
+    }
+    let before = script.cut();
+    for i in 0..STRETCH {
+        let lower = second::read(&script.book, 0).lower;
+        let offer = if i % 2 == 0 { lower } else { PRICE };
+        script.tell(quote(0, time, 0, 0, offer));
+    }
+    case(
+        "quote into and out of a limit state, 512 held",
+        before,
+        script,
+    )
+}
+
+/// Numbers by chance, the same on every machine.
+struct Chance(u64);
+
+impl Chance {
+    /// A number below this one.
+    fn below(&mut self, bound: u32) -> u32 {
+        self.0 ^= self.0 << 13;
+        self.0 ^= self.0 >> 7;
+        self.0 ^= self.0 << 17;
+        (((self.0 >> 32) * u64::from(bound)) >> 32) as u32
+    }
+}
+
+/// Four stocks whose prices walk, a message every 56 milliseconds: 28 of 100 are trades, so that each stock comes to hold some
+/// 370; one in 100 is a trade far outside the bands, and the others are quotes.
+fn day() -> Case {
+    const STOCKS: u32 = 4;
+    const MESSAGES: u32 = 20_000;
+    let (mut script, mut chance) = (empty_book(STOCKS), Chance(1));
+    let mut prices = [PRICE; STOCKS as usize];
+    for stock in 0..STOCKS {
+        script.settle_and_tell(message(Letter::O, stock, 1_000, PRICE));
+    }
+    for i in STOCKS..MESSAGES {
+        let (stock, time) = (chance.below(STOCKS), 1_000 + 56 * i);
+        let price = prices[stock as usize] + chance.below(61) - 30;
+        prices[stock as usize] = price;
+        let (bid, offer) = (
+            price - 100 * (1 + chance.below(8)),
+            price + 100 * (1 + chance.below(8)),
+        );
+        script.settle_and_tell(match chance.below(100) {
+            0 => message(Letter::T, stock, time, 2 * price),
+            1..=28 => message(Letter::T, stock, time, price),
+            _ => quote(stock, time, chance.below(16), bid, offer),
+        });
+    }
+    Case {
+        counted: MESSAGES as usize,
+        has_floor: false,
+        ..case(
+            "a message of a mixed day, with its settling",
+            Vec::new(),
+            script,
+        )
+    }
+}
+
+fn setup_of_all() -> Case {
+    let mut script = empty_book(64);
+    script.calls = vec![Call::Setup; 16];
+    Case {
+        has_floor: false,
+        ..case("setup of 64 stocks", Vec::new(), script)
+    }
+}
+
+/// How each case is made, in the order of the table.
+pub const ALL: [fn() -> Case; 12] = [
+    || quotes(1, 0),
+    || quotes(1, 64),
+    || quotes(1, 512),
+    || quotes(64, 512),
+    limits,
+    || trades(480),
+    || nothing_due(0),
+    || nothing_due(512),
+    leavings,
+    || reads(512),
+    day,
+    setup_of_all,
+];

@@ -1,0 +1,52 @@
+//! Times the library's calls against the second implementation and the floor.
+//!
+//!     calls table HEADER           prints a table under this header
+//!     calls count CASE SIDE TIMES  plays a case's calls so many times, to be counted
+
+mod call;
+mod cases;
+mod count;
+mod sides;
+mod timing;
+
+use cases::Case;
+
+fn main() {
+    let words: Vec<String> = std::env::args().skip(1).collect();
+    let words: Vec<&str> = words.iter().map(String::as_str).collect();
+    match words[..] {
+        ["table", header] => print_table(header),
+        ["count", case, side, times] => count::run(number(case), side, number(times)),
+        _ => panic!("usage: calls table HEADER | calls count CASE SIDE TIMES"),
+    }
+}
+
+fn number(word: &str) -> usize {
+    word.parse().expect("a number")
+}
+
+fn print_table(header: &str) {
+    println!("{header}\n");
+    println!("| case | library ns | second ns | floor ns | library/second | library/floor | instructions library | instructions second |");
+    println!("|---|---|---|---|---|---|---|---|");
+    let cases: Vec<Case> = cases::ALL.iter().map(|make| make()).collect();
+    for (index, (case, times)) in cases.iter().zip(timing::time(&cases)).enumerate() {
+        let [one, other] =
+            ["library", "second"].map(|side| count::instructions(index, side, case.counted));
+        let cells = [
+            cell(Some(times.library), 1),
+            cell(Some(times.second), 1),
+            cell(times.floor, 1),
+            cell(Some(times.to_second), 2),
+            cell(times.to_floor, 2),
+            cell(one, 0),
+            cell(other, 0),
+        ];
+        println!("| {} | {} |", case.name, cells.join(" | "));
+    }
+}
+
+/// A number with so many decimals, or a dash.
+fn cell(value: Option<f64>, decimals: usize) -> String {
+    value.map_or("-".to_string(), |value| format!("{value:.decimals$}"))
+}

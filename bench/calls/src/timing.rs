@@ -1,0 +1,158 @@
+//! Times the three in turn, so that what disturbs the machine disturbs all of them.
+
+use std::time::Duration;
+
+use second::HELD_AT_MOST;
+
+use crate::call::{Call, Given, Glance};
+use crate::cases::Case;
+use crate::sides::{Floor, Library, Second, Side};
+
+/// How often all cases are gone through, so that a busy time of the machine is spread over them.
+const SWEEPS: usize = 5;
+/// How often the three take turns in each.
+const ROUNDS: usize = 21;
+/// How long one turn lasts.
+const TURN: Duration = Duration::from_millis(2);
+
+/// A case ready to be played.
+struct Start {
+    library: Library,
+    second: Second,
+    floor: Option<Floor>,
+}
+
+/// Nanoseconds per call, the least of all rounds, and ratios, the median of the rounds'.
+pub struct Times {
+    pub library: f64,
+    pub second: f64,
+    pub floor: Option<f64>,
+    pub to_second: f64,
+    pub to_floor: Option<f64>,
+}
+
+/// Brings both to the case's start, and sees to it that they answer alike up to there and on all calls that are timed.
+fn start(case: &Case) -> Start {
+    let mut library = Library::new(&case.setups, case.end);
+    let mut second = Second::new(&case.setups, case.end);
+    play_alike(&mut library, &mut second, &[Call::Setup]);
+    play_alike(&mut library, &mut second, &case.before);
+    let start = (library.clone(), second.clone());
+    let mut passes = Vec::new();
+    for call in &case.calls {
+        let stock = call.stock();
+        passes.push((HELD_AT_MOST * stock, second.book[stock].trades.len()));
+        play_alike(&mut library, &mut second, &[*call]);
+    }
+    let floor = case.has_floor.then(|| Floor {
+        times: start.0.times.clone(),
+        prices: start.0.prices.clone(),
+        passes,
+    });
+    Start {
+        library: start.0,
+        second: start.1,
+        floor,
+    }
+}
+
+fn play_alike(library: &mut Library, second: &mut Second, calls: &[Call]) {
+    let (mut one, mut other): (Vec<Given>, Vec<Given>) = (Vec::new(), Vec::new());
+    library.play(calls, &mut one);
+    second.play(calls, &mut other);
+    assert_eq!(one, other, "the library and the second answer differently");
+}
+
+/// What Linux on 64 bits calls a timespec.
+#[derive(Default)]
+#[repr(C)]
+struct Clock {
+    seconds: i64,
+    nanoseconds: i64,
+}
+
+extern "C" {
+    fn clock_gettime(which: i32, clock: *mut Clock) -> i32;
+}
+
+/// The processor's time that this thread has used, so that what others use in between does not count.
+fn used() -> Duration {
+    const OF_THIS_THREAD: i32 = 3;
+    let mut clock = Clock::default();
+    // SAFETY: the pointer is to a timespec.
+    let failed = unsafe { clock_gettime(OF_THIS_THREAD, &mut clock) };
+    assert_eq!(failed, 0);
+    Duration::new(clock.seconds as u64, clock.nanoseconds as u32)
+}
+
+/// The nanoseconds of the shortest stretch in one turn.
+fn shortest(mut stretch: impl FnMut() -> Duration) -> f64 {
+    let began = used();
+    let mut least = stretch();
+    while used() < began + TURN {
+        least = least.min(stretch());
+    }
+    least.as_nanos() as f64
+}
+
+/// One turn of a side; bringing it back to the start is not timed.
+fn turn<S: Side>(side: &mut S, start: &S, calls: &[Call]) -> f64 {
+    shortest(|| {
+        side.restore(start);
+        let from = used();
+        side.play(calls, &mut Glance);
+        used() - from
+    })
+}
+
+fn floor_turn(floor: &Floor) -> f64 {
+    shortest(|| {
+        let from = used();
+        floor.play();
+        used() - from
+    })
+}
+
+/// What the library, the second and the floor took for one call in one round; without a floor, no number.
+type Round = [f64; 3];
+
+/// Times all cases.
+pub fn time(cases: &[Case]) -> Vec<Times> {
+    let starts: Vec<Start> = cases.iter().map(start).collect();
+    let mut rounds = vec![Vec::new(); cases.len()];
+    for _ in 0..SWEEPS {
+        for ((case, start), rounds) in cases.iter().zip(&starts).zip(&mut rounds) {
+            take_turns(case, start, rounds);
+        }
+    }
+    rounds.iter().map(|rounds| times(rounds)).collect()
+}
+
+fn take_turns(case: &Case, start: &Start, rounds: &mut Vec<Round>) {
+    let (mut library, mut second) = (start.library.clone(), start.second.clone());
+    for _ in 0..ROUNDS {
+        let one = turn(&mut library, &start.library, &case.calls);
+        let other = turn(&mut second, &start.second, &case.calls);
+        let least = start.floor.as_ref().map_or(f64::NAN, floor_turn);
+        rounds.push([one, other, least].map(|time| time / case.counted as f64));
+    }
+}
+
+fn times(rounds: &[Round]) -> Times {
+    let least = |of: fn(&Round) -> f64| sorted(rounds, of)[0];
+    let median = |of: fn(&Round) -> f64| sorted(rounds, of)[rounds.len() / 2];
+    let known = |value: f64| (!value.is_nan()).then_some(value);
+    Times {
+        library: least(|round| round[0]),
+        second: least(|round| round[1]),
+        floor: known(least(|round| round[2])),
+        to_second: median(|round| round[0] / round[1]),
+        to_floor: known(median(|round| round[0] / round[2])),
+    }
+}
+
+fn sorted(rounds: &[Round], of: fn(&Round) -> f64) -> Vec<f64> {
+    let mut values: Vec<f64> = rounds.iter().map(of).collect();
+    values.sort_by(f64::total_cmp);
+    values
+}

@@ -1,0 +1,433 @@
+//! Holds the structs of `raw` to the library. A day is played that gives every field a known value, and the memory that the
+//! library wrote is looked at: each value stands where `raw` has its field, and nothing is written before or behind what is lent.
+
+use std::mem::{size_of, size_of_val};
+use std::ptr::addr_of;
+use sumpheron::{raw, Number, PARTICIPANTS, PLACES};
+
+// ---------------------------------------------------------------- what `raw` has
+
+struct Field {
+    name: String,
+    offset: usize,
+    size: usize,
+}
+
+macro_rules! fields {
+    ($of:ident: $($first:ident $(.$more:ident)*),+) => {{
+        let whole = raw::$of::default();
+        vec![$(Field {
+            name: concat!(stringify!($of), ".", stringify!($first) $(, ".", stringify!($more))*).to_owned(),
+            offset: addr_of!(whole.$first$(.$more)*) as usize - addr_of!(whole) as usize,
+            size: size_of_val(&whole.$first$(.$more)*),
+        }),+]
+    }};
+}
+
+/// The numbers of a field: one, or those of an array.
+fn numbers(field: Field) -> Vec<Field> {
+    let number = |i| Field {
+        name: format!("{}[{i}]", field.name),
+        offset: field.offset + 4 * i,
+        size: 4,
+    };
+    match field.size {
+        4 => vec![field],
+        size => (0..size / 4).map(number).collect(),
+    }
+}
+
+fn record() -> Vec<Field> {
+    let fields = fields!(Record:
+        tier, leverage, primary, close, end, state, clock, early, entry, pause, reference, start, hold,
+        bids, offers, count);
+    fields.into_iter().flat_map(numbers).collect()
+}
+
+fn answer() -> Vec<Field> {
+    fields!(Answer: number, state, reference, lower, upper, bid, bid_flag, offer, offer_flag)
+}
+
+fn notice() -> Vec<Field> {
+    fields!(Notice:
+        answer.number, answer.state, answer.reference, answer.lower, answer.upper,
+        answer.bid, answer.bid_flag, answer.offer, answer.offer_flag, moment.mark, moment.time)
+}
+
+// ---------------------------------------------------------------- what the day gives
+
+/// Stock 0 as it was set up, and stock 1 at the end.
+fn records() -> [Vec<u64>; 2] {
+    let mut first = vec![1, 1, 6, 31_000, 3_700_000, 0, 0, 1];
+    first.resize(record().len(), 0);
+    let mut second = vec![2, 3, 9, 115_000, 3_700_000, 4, 3_150_003, 1];
+    second.extend([3_090_002, 3_105_002, 100_000, 1_001, 0]);
+    second.extend(159_985..=160_016);
+    second.push(HELD.into());
+    [first, second]
+}
+
+/// Reading in Trading, and a trade outside the bands in Limit.
+const ANSWERS: [[u64; 9]; 2] = [
+    [0, 1, 100_000, 40_000, 160_000, 159_999, 1, 160_001, 2],
+    [12, 2, 100_000, 40_000, 160_000, 160_000, 3, 160_001, 2],
+];
+
+/// Settling where nothing is due, and the pause.
+const NOTICES: [[u64; 11]; 2] = [
+    [
+        14, 1, 100_000, 40_000, 160_000, 159_999, 1, 160_001, 2, 0, 0,
+    ],
+    [0, 4, 100_000, 0, 0, 160_000, 1, 160_001, 1, 0x78, 3_105_002],
+];
+
+/// Any call on a book that is not set up.
+const RUBBISH: [u64; 11] = [1, 0, 0, 0, 0, 0, 0, 0, 0, 0, 0];
+
+// ---------------------------------------------------------------- the memory that is lent
+
+/// With an odd guard the records stand at an address that is aligned to no more than they ask for.
+const GUARD: usize = 33;
+const PATTERN: u32 = 0xa5a5_a5a5;
+const STOCKS: usize = 2;
+const RECORD: usize = size_of::<raw::Record>();
+const HELD: u32 = 5;
+/// The moments between the opening and the first trade: h, v, w, w.
+const DUE: usize = 4;
+
+/// The three arrays, with guards before and behind each.
+#[derive(Clone)]
+struct Memory {
+    records: Vec<u32>,
+    times: Vec<u32>,
+    prices: Vec<u32>,
+}
+
+impl Memory {
+    fn new() -> Memory {
+        let array = |length| vec![PATTERN; GUARD + length + GUARD];
+        Memory {
+            records: array(STOCKS * RECORD / 4),
+            times: array(STOCKS * PLACES),
+            prices: array(STOCKS * PLACES),
+        }
+    }
+
+    fn arrays(&self) -> [(&'static str, &[u32]); 3] {
+        [
+            ("records", &self.records),
+            ("times", &self.times),
+            ("prices", &self.prices),
+        ]
+    }
+}
+
+/// Where an answer is written.
+type Room = [u64; 32];
+
+/// Calls a function with an answer's place, where one stands in brackets, then with the three arrays and the other arguments.
+macro_rules! lend {
+    ($function:path, [$($room:ident)?], $memory:expr $(, $argument:expr)*) => {{
+        let Memory { records, times, prices } = $memory;
+        // SAFETY: each array lies between its guards, in a vector of its own that is borrowed by this call alone.
+        unsafe {
+            $function(
+                $($room,)?
+                records[GUARD..].as_mut_ptr().cast(), STOCKS,
+                times[GUARD..].as_mut_ptr(), STOCKS * PLACES,
+                prices[GUARD..].as_mut_ptr(), STOCKS * PLACES
+                $(, $argument)*
+            )
+        }
+    }};
+}
+
+/// On x86-64 a struct of more than 16 bytes is written to where a hidden first argument points: here it is not hidden.
+#[cfg(target_arch = "x86_64")]
+#[allow(clippy::too_many_arguments)]
+mod written {
+    use super::Room;
+
+    extern "C" {
+        pub fn sumpheron_read(
+            room: *mut Room,
+            book: *const u32,
+            stocks: usize,
+            times: *const u32,
+            times_length: usize,
+            prices: *const u32,
+            prices_length: usize,
+            stock: u32,
+        );
+
+        pub fn sumpheron_settle(
+            room: *mut Room,
+            book: *mut u32,
+            stocks: usize,
+            times: *mut u32,
+            times_length: usize,
+            prices: *mut u32,
+            prices_length: usize,
+            stock: u32,
+            time: u32,
+        );
+
+        pub fn sumpheron_trade(
+            room: *mut Room,
+            book: *mut u32,
+            stocks: usize,
+            times: *mut u32,
+            times_length: usize,
+            prices: *mut u32,
+            prices_length: usize,
+            stock: u32,
+            time: u32,
+            price: u32,
+        );
+    }
+}
+
+/// Makes a call whose answer goes into the room.
+#[cfg(target_arch = "x86_64")]
+macro_rules! answer_into {
+    ($function:ident, $room:ident, $memory:expr $(, $argument:expr)*) => {
+        lend!(written::$function, [$room], $memory $(, $argument)*)
+    };
+}
+#[cfg(not(target_arch = "x86_64"))]
+macro_rules! answer_into {
+    ($function:ident, $room:ident, $memory:expr $(, $argument:expr)*) => {{
+        let answer = lend!(raw::$function, [], $memory $(, $argument)*);
+        // SAFETY: the room is aligned to 8, and larger than any answer.
+        unsafe { std::ptr::write(std::ptr::addr_of_mut!(*$room).cast(), answer) }
+    }};
+}
+
+// ---------------------------------------------------------------- checks
+
+fn number(bytes: &[u8], size: usize) -> u64 {
+    match size {
+        4 => u32::from_ne_bytes(bytes[..4].try_into().unwrap()).into(),
+        _ => u64::from_ne_bytes(bytes[..8].try_into().unwrap()),
+    }
+}
+
+fn bytes_of(words: &[u32]) -> Vec<u8> {
+    words.iter().flat_map(|word| word.to_ne_bytes()).collect()
+}
+
+/// Each field has its value in a struct that the library wrote; what is wrong is said.
+fn check_fields(fields: &[Field], values: &[u64], written: &[u8]) -> Vec<String> {
+    let mut faults = Vec::new();
+    for (field, &value) in fields.iter().zip(values) {
+        let Field { name, offset, size } = field;
+        if number(&written[*offset..], *size) != value {
+            let has = |at: &usize| number(&written[*at..], *size) == value;
+            let places: Vec<usize> = (0..=written.len() - *size)
+                .step_by(*size)
+                .filter(has)
+                .collect();
+            faults.push(format!(
+                "{name} is at byte {offset} of raw, and the library has {value} at {places:?}"
+            ));
+        }
+    }
+    faults
+}
+
+/// The fields leave no byte of the struct out but so many of padding, and some row of values tells any two fields apart.
+fn check_table(fields: &[Field], rows: &[&[u64]], size: usize, padding: usize) {
+    let sum: usize = fields.iter().map(|field| field.size).sum();
+    assert_eq!(
+        sum + padding,
+        size,
+        "bytes of the fields from {} on",
+        fields[0].name
+    );
+    for (i, field) in fields.iter().enumerate() {
+        for (j, other) in fields[..i].iter().enumerate() {
+            let apart = rows.iter().any(|row| row[i] != row[j]);
+            assert!(apart, "nothing tells {} from {}", field.name, other.name);
+        }
+    }
+}
+
+/// Makes a call over two fillings of the room: what is as it was filled both times was not written.
+fn check_call(
+    memory: &mut Memory,
+    fields: &[Field],
+    values: &[u64],
+    size: usize,
+    call: fn(&mut Memory, &mut Room),
+) {
+    let before = memory.clone();
+    let mut end = 0;
+    for fill in [0xa5, 0x5a] {
+        let mut room = [u64::from_ne_bytes([fill; 8]); 32];
+        *memory = before.clone();
+        call(memory, &mut room);
+        let bytes: Vec<u8> = room.iter().flat_map(|word| word.to_ne_bytes()).collect();
+        let faults = check_fields(fields, values, &bytes[..size]);
+        assert!(faults.is_empty(), "{faults:#?}");
+        end = end.max(
+            bytes
+                .iter()
+                .rposition(|&byte| byte != fill)
+                .map_or(0, |last| last + 1),
+        );
+    }
+    assert_eq!(
+        end, size,
+        "bytes that are written, and bytes of the struct of {}",
+        fields[0].name
+    );
+}
+
+/// Guards are untouched and all between them is written.
+fn check_guards(memory: &Memory) {
+    for (name, array) in memory.arrays() {
+        for (i, &word) in array.iter().enumerate() {
+            let inside = (GUARD..array.len() - GUARD).contains(&i);
+            assert_eq!(
+                inside,
+                word != PATTERN,
+                "{name}: number {i}, {GUARD} of guard counted"
+            );
+        }
+    }
+}
+
+// ---------------------------------------------------------------- the day
+
+fn expect_done(answer: raw::Answer) {
+    assert_eq!(Number::from(answer.number), Number::Done);
+}
+
+fn read(memory: &mut Memory, room: &mut Room) {
+    answer_into!(sumpheron_read, room, memory, 1)
+}
+
+fn trade_outside(memory: &mut Memory, room: &mut Room) {
+    answer_into!(sumpheron_trade, room, memory, 1, 3_090_003, 160_001)
+}
+
+fn settle_nothing(memory: &mut Memory, room: &mut Room) {
+    answer_into!(sumpheron_settle, room, memory, 1, 3_080_200)
+}
+
+fn settle_pause(memory: &mut Memory, room: &mut Room) {
+    answer_into!(sumpheron_settle, room, memory, 1, 3_110_000)
+}
+
+fn set_up(memory: &mut Memory) {
+    let setups = [1, 1, 6, 31_000, 2, 3, 9, 115_000];
+    expect_done(lend!(
+        raw::sumpheron_setup,
+        [],
+        memory,
+        3_700_000,
+        setups.as_ptr(),
+        setups.len()
+    ));
+    check_guards(memory);
+}
+
+fn quote(memory: &mut Memory, time: u32, who: u32) {
+    expect_done(lend!(
+        raw::sumpheron_quote,
+        [],
+        memory,
+        1,
+        time,
+        who,
+        159_985 + who,
+        160_001 + who
+    ));
+}
+
+/// Stock 1 opens, trades, and is quoted by all but the last participant.
+fn play_trading(memory: &mut Memory) {
+    expect_done(lend!(
+        raw::sumpheron_opening,
+        [],
+        memory,
+        1,
+        1_001,
+        9,
+        100_000
+    ));
+    for _ in 0..DUE {
+        expect_done(lend!(raw::sumpheron_settle, [], memory, 1, 3_080_000).answer);
+    }
+    for i in 0..HELD {
+        expect_done(lend!(
+            raw::sumpheron_trade,
+            [],
+            memory,
+            1,
+            3_080_001 + i,
+            100_001 + i
+        ));
+    }
+    for i in 0..PARTICIPANTS as u32 - 1 {
+        quote(memory, 3_080_100 + i, i);
+    }
+}
+
+fn check_records(memory: &Memory) {
+    let bytes = bytes_of(&memory.records[GUARD..]);
+    for (stock, values) in records().iter().enumerate() {
+        let faults = check_fields(&record(), values, &bytes[stock * RECORD..][..RECORD]);
+        assert!(faults.is_empty(), "stock {stock}: {faults:#?}");
+    }
+}
+
+/// Stock 1 has its trades at the front of its places, and all other places are 0.
+fn check_places(memory: &Memory) {
+    for (array, first) in [(&memory.times, 3_080_001), (&memory.prices, 100_001)] {
+        let mut wanted = vec![0; STOCKS * PLACES];
+        for i in 0..HELD {
+            wanted[PLACES + i as usize] = first + i;
+        }
+        assert_eq!(array[GUARD..GUARD + STOCKS * PLACES], wanted);
+    }
+}
+
+#[test]
+fn fields_are_where_the_library_writes_them() {
+    let (answer, notice) = (answer(), notice());
+    let (answer_size, notice_size) = (size_of::<raw::Answer>(), size_of::<raw::Notice>());
+    check_table(&record(), &[&records()[1]], RECORD, 0);
+    check_table(&answer, &[&ANSWERS[0], &ANSWERS[1]], answer_size, 4);
+    check_table(&notice, &[&NOTICES[0], &NOTICES[1]], notice_size, 8);
+
+    // The sizes come first: a call that writes more than `raw` has would spoil the stack.
+    let mut memory = Memory::new();
+    check_call(&mut memory, &answer, &RUBBISH, answer_size, read);
+    check_call(&mut memory, &notice, &RUBBISH, notice_size, settle_nothing);
+
+    set_up(&mut memory);
+    play_trading(&mut memory);
+    check_call(&mut memory, &answer, &ANSWERS[0], answer_size, read);
+    check_call(
+        &mut memory,
+        &notice,
+        &NOTICES[0],
+        notice_size,
+        settle_nothing,
+    );
+    quote(&mut memory, 3_090_002, PARTICIPANTS as u32 - 1);
+    check_call(
+        &mut memory,
+        &answer,
+        &ANSWERS[1],
+        answer_size,
+        trade_outside,
+    );
+    check_call(&mut memory, &notice, &NOTICES[1], notice_size, settle_pause);
+    quote(&mut memory, 3_150_003, 3);
+
+    check_records(&memory);
+    check_guards(&memory);
+    check_places(&memory);
+}

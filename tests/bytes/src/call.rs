@@ -1,0 +1,129 @@
+//! The calls of the C interface, and how each is judged and done on the bytes.
+
+use second::{read, settle, tell, Answer, Message, Notice, Setup, Stock};
+
+use crate::field::WORDS;
+use crate::record::{self, Part};
+use crate::PLACES;
+
+/// A setup's list has this many numbers for each stock.
+const SETUP: usize = 4;
+const STOCKS_AT_MOST: usize = 64;
+
+/// The three arrays that a call is lent.
+pub struct Lent<'a> {
+    pub records: &'a mut [[u32; WORDS]],
+    pub times: &'a mut [u32],
+    pub prices: &'a mut [u32],
+}
+
+/// One call with what it names beside the arrays.
+#[derive(Clone, Debug)]
+pub enum Call {
+    Setup { end: u32, setups: Vec<u32> },
+    Settle { stock: u32, time: u32 },
+    Read { stock: u32 },
+    Tell(Message),
+}
+
+/// What a call gives back: mark and time are 0 where no moment was done.
+#[derive(Clone, Copy, Debug, Default, PartialEq, Eq)]
+pub struct Given {
+    pub answer: Answer,
+    pub mark: u32,
+    pub time: u64,
+}
+
+/// Plays one call; every answer but 0 leaves all bytes as they stood.
+pub fn play(lent: &mut Lent, call: &Call) -> Given {
+    if !has_right_shape(lent) {
+        return zeros(1);
+    }
+    match *call {
+        Call::Setup { end, ref setups } => set_up(lent, end, setups),
+        Call::Settle { stock, time } => {
+            on_stock(lent, stock, |book| noticed(settle(book, 0, time)))
+        }
+        Call::Read { stock } => on_stock(lent, stock, |book| answered(read(book, 0))),
+        Call::Tell(message) => on_stock(lent, message.stock, |book| {
+            answered(tell(
+                book,
+                &Message {
+                    stock: 0,
+                    ..message
+                },
+            ))
+        }),
+    }
+}
+
+fn has_right_shape(lent: &Lent) -> bool {
+    let stocks = lent.records.len();
+    let places = PLACES * stocks;
+    (1..=STOCKS_AT_MOST).contains(&stocks)
+        && lent.times.len() == places
+        && lent.prices.len() == places
+}
+
+/// Starts the whole book: every byte of the three arrays is written.
+fn set_up(lent: &mut Lent, end: u32, numbers: &[u32]) -> Given {
+    if numbers.len() != SETUP * lent.records.len() {
+        return zeros(1);
+    }
+    let setups: Vec<Setup> = numbers.chunks(SETUP).map(record::setup).collect();
+    if let Err(number) = second::setup(&setups, end) {
+        return zeros(number);
+    }
+    for (record, setup) in lent.records.iter_mut().zip(&setups) {
+        *record = record::start(setup, end);
+    }
+    lent.times.fill(0);
+    lent.prices.fill(0);
+    zeros(0)
+}
+
+/// Reads the one stock's bytes, plays the call on it and writes it back if that was accepted.
+fn on_stock(lent: &mut Lent, stock: u32, judge: impl Fn(&mut [Stock]) -> Given) -> Given {
+    let index = stock as usize;
+    if index >= lent.records.len() {
+        return zeros(3);
+    }
+    let places = PLACES * index..PLACES * (index + 1);
+    let mut part = Part {
+        record: &mut lent.records[index],
+        times: &mut lent.times[places.clone()],
+        prices: &mut lent.prices[places],
+    };
+    let Some(before) = part.read() else {
+        return zeros(1);
+    };
+    let mut book = [before.clone()];
+    let given = judge(&mut book);
+    if given.answer.number == 0 {
+        part.write(&before, &book[0]);
+    }
+    given
+}
+
+fn noticed(notice: Notice) -> Given {
+    Given {
+        answer: notice.answer,
+        mark: u32::from(notice.mark),
+        time: u64::from(notice.time),
+    }
+}
+
+fn answered(answer: Answer) -> Given {
+    Given {
+        answer,
+        ..Given::default()
+    }
+}
+
+/// This number with zeros beside it.
+fn zeros(number: u32) -> Given {
+    answered(Answer {
+        number,
+        ..Answer::default()
+    })
+}

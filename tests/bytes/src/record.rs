@@ -1,0 +1,127 @@
+//! One stock's bytes: its record of 46 numbers and its 512 places of times and of prices.
+
+use second::{Setup, Stock, Trade, LIMIT, PARTICIPANTS, TRADING};
+
+use crate::field::*;
+use crate::PLACES;
+
+/// One stock's part of a book.
+pub(crate) struct Part<'a> {
+    pub record: &'a mut [u32; WORDS],
+    pub times: &'a mut [u32],
+    pub prices: &'a mut [u32],
+}
+
+impl Part<'_> {
+    /// The stock that the bytes hold, or none when more trades are counted than there are places.
+    pub fn read(&self) -> Option<Stock> {
+        let record = &self.record;
+        let count = record[COUNT] as usize;
+        if count > PLACES {
+            return None;
+        }
+        let clock = record[CLOCK];
+        let late_w = record[END].saturating_sub(1_500_000);
+        Some(Stock {
+            setup: setup(&record[TIER..END]),
+            end: record[END],
+            state: record[STATE],
+            clock,
+            reference: record[REFERENCE],
+            reference_start: record[START],
+            hold_ended: u32::from(record[HOLD] == 0),
+            limit_entry: record[ENTRY],
+            pause_start: record[PAUSE],
+            early_w_done: u32::from(clock >= 900_000),
+            late_w_done: u32::from(clock >= late_w),
+            f_done: u32::from(record[EARLY] == 0),
+            bids: std::array::from_fn(|i| record[BIDS + i]),
+            offers: std::array::from_fn(|i| record[OFFERS + i]),
+            trades: self.trades(count),
+        })
+    }
+
+    fn trades(&self, count: usize) -> Vec<Trade> {
+        let held = self.times[..count].iter().zip(&self.prices[..count]);
+        held.map(|(&time, &price)| Trade { time, price }).collect()
+    }
+
+    /// Writes what an accepted call made of the stock that was read.
+    pub fn write(&mut self, before: &Stock, after: &Stock) {
+        let record = &mut self.record;
+        record[STATE] = after.state;
+        record[CLOCK] = after.clock;
+        if after.f_done != before.f_done {
+            record[EARLY] = 0;
+        }
+        record[ENTRY] = after.limit_entry;
+        record[PAUSE] = after.pause_start;
+        record[REFERENCE] = after.reference;
+        record[START] = after.reference_start;
+        record[HOLD] = hold(record[HOLD], before, after);
+        record[BIDS..OFFERS].copy_from_slice(&after.bids);
+        record[OFFERS..COUNT].copy_from_slice(&after.offers);
+        record[COUNT] = after.trades.len() as u32;
+        self.write_trades(before.trades.len(), &after.trades);
+    }
+
+    /// Freed places become 0, and no other unused place is written.
+    fn write_trades(&mut self, held_before: usize, trades: &[Trade]) {
+        for (place, trade) in trades.iter().enumerate() {
+            self.times[place] = trade.time;
+            self.prices[place] = trade.price;
+        }
+        for place in trades.len()..held_before {
+            self.times[place] = 0;
+            self.prices[place] = 0;
+        }
+    }
+}
+
+/// A setup from its four numbers: tier, leverage, primary, close.
+pub(crate) fn setup(numbers: &[u32]) -> Setup {
+    Setup {
+        tier: numbers[0],
+        leverage: numbers[1],
+        primary: numbers[2],
+        close: numbers[3],
+    }
+}
+
+/// A record as a setup leaves it.
+pub(crate) fn start(setup: &Setup, end: u32) -> [u32; WORDS] {
+    let mut record = [0; WORDS];
+    record[TIER] = setup.tier;
+    record[LEVERAGE] = setup.leverage;
+    record[PRIMARY] = setup.primary;
+    record[CLOSE] = setup.close;
+    record[END] = end;
+    record[EARLY] = 1;
+    record
+}
+
+/// The marker `hold` after a call: 0 at h, 1 where the start was written, and else as it stood.
+fn hold(stood: u32, before: &Stock, after: &Stock) -> u32 {
+    if after.hold_ended != 0 {
+        0
+    } else if before.hold_ended != 0 || starts_anew(before, after) {
+        1
+    } else {
+        stood
+    }
+}
+
+/// Whether the reference's start was written, while its hold had not ended before the call.
+///
+/// From Trading that is only by h and its Test, 30,000 after the old start. From Limit it is by
+/// leaving it, and with the same entry and reference the same bands come, so that Limit cannot
+/// begin afresh. From other states each way into Trading or Limit writes it.
+fn starts_anew(before: &Stock, after: &Stock) -> bool {
+    let kept = |stock: &Stock| (stock.state, stock.limit_entry, stock.reference);
+    match before.state {
+        TRADING => after.reference_start != before.reference_start,
+        _ => matches!(after.state, TRADING | LIMIT) && kept(after) != kept(before),
+    }
+}
+
+const _: () = assert!(OFFERS == BIDS + PARTICIPANTS && COUNT == OFFERS + PARTICIPANTS);

@@ -1,0 +1,332 @@
+//! Document 01's day on bytes, setup, refusals that leave all bytes, and a few rubbish records.
+
+use bytes::field::*;
+use bytes::{play, Call, Given, Lent, PLACES, WORDS};
+use second::{Letter, Message};
+
+const END: u32 = 23_400_000;
+const SETUP: [u32; 4] = [2, 1, 2, 115_000];
+
+#[derive(Clone, Debug, PartialEq)]
+struct Book {
+    records: Vec<[u32; WORDS]>,
+    times: Vec<u32>,
+    prices: Vec<u32>,
+}
+
+impl Book {
+    /// A book of this many stocks with the same number everywhere.
+    fn filled(stocks: usize, number: u32) -> Book {
+        Book {
+            records: vec![[number; WORDS]; stocks],
+            times: vec![number; PLACES * stocks],
+            prices: vec![number; PLACES * stocks],
+        }
+    }
+
+    /// One stock of document 01's day, just set up.
+    fn started() -> Book {
+        let mut book = Book::filled(1, 9);
+        assert_eq!(book.set_up(END, &SETUP), 0);
+        book
+    }
+
+    fn play(&mut self, call: &Call) -> Given {
+        let mut lent = Lent {
+            records: &mut self.records,
+            times: &mut self.times,
+            prices: &mut self.prices,
+        };
+        play(&mut lent, call)
+    }
+
+    fn set_up(&mut self, end: u32, setups: &[u32]) -> u32 {
+        let setups = setups.to_vec();
+        self.play(&Call::Setup { end, setups }).answer.number
+    }
+
+    fn tell(&mut self, letter: Letter, time: u32, rest: [u32; 3]) -> Given {
+        self.play(&message(letter, time, rest))
+    }
+
+    fn settle(&mut self, time: u32) -> Given {
+        self.play(&Call::Settle { stock: 0, time })
+    }
+
+    /// Settles as far as this time and then tells the message.
+    fn settle_and_tell(&mut self, letter: Letter, time: u32, rest: [u32; 3]) -> Given {
+        while self.settle(time).answer.number == 0 {}
+        self.tell(letter, time, rest)
+    }
+}
+
+/// A message on stock 0: T price, Q participant bid offer, P participant, others participant price.
+fn message(letter: Letter, time: u32, rest: [u32; 3]) -> Call {
+    let price = match letter {
+        Letter::T => rest[0],
+        _ => rest[1],
+    };
+    Call::Tell(Message {
+        letter,
+        stock: 0,
+        time,
+        participant: rest[0],
+        price,
+        bid: rest[1],
+        offer: rest[2],
+    })
+}
+
+/// What document 01's day prints: mark or letter, time, and the nine numbers of the answer.
+fn line(mark: u32, time: u64, given: &Given) -> String {
+    let a = &given.answer;
+    let numbers = [
+        a.number,
+        a.state,
+        a.reference,
+        a.lower,
+        a.upper,
+        a.bid,
+        a.bid_flag,
+        a.offer,
+        a.offer_flag,
+    ];
+    let numbers = numbers.map(|number| number.to_string()).join(" ");
+    let mark = char::from_u32(mark).unwrap();
+    format!("0 {time} {mark} {numbers}")
+}
+
+const DAY: [(Letter, u32, [u32; 3]); 7] = [
+    (Letter::O, 1_000, [2, 115_000, 0]),
+    (Letter::Q, 2_000, [5, 114_900, 115_100]),
+    (Letter::Q, 3_000, [7, 0, 92_000]),
+    (Letter::Q, 4_000, [5, 0, 115_100]),
+    (Letter::T, 5_000, [92_000, 0, 0]),
+    (Letter::R, 319_000, [2, 95_000, 0]),
+    (Letter::T, 319_500, [120_000, 0, 0]),
+];
+
+const PRINTED: [&str; 11] = [
+    "0 1000 O 0 1 115000 92000 138000 0 0 0 0",
+    "0 2000 Q 0 1 115000 92000 138000 114900 1 115100 1",
+    "0 3000 Q 0 1 115000 92000 138000 114900 1 92000 3",
+    "0 4000 Q 0 2 115000 92000 138000 0 0 92000 3",
+    "0 5000 T 0 2 115000 92000 138000 0 0 92000 3",
+    "0 19000 x 0 3 115000 0 0 0 0 92000 1",
+    "0 31000 h 0 3 115000 0 0 0 0 92000 1",
+    "0 301000 v 0 3 115000 0 0 0 0 92000 1",
+    "0 305000 v 0 3 115000 0 0 0 0 92000 1",
+    "0 319000 R 0 1 95000 76000 114000 0 0 92000 1",
+    "0 319500 T 12 1 95000 76000 114000 0 0 92000 1",
+];
+
+#[test]
+fn the_day_of_document_01() {
+    let mut book = Book::started();
+    let mut printed = Vec::new();
+    for (letter, time, rest) in DAY {
+        loop {
+            let given = book.settle(time);
+            if given.answer.number != 0 {
+                break;
+            }
+            printed.push(line(given.mark, given.time, &given));
+        }
+        let given = book.tell(letter, time, rest);
+        printed.push(line(u32::from(letter.byte()), u64::from(time), &given));
+    }
+    assert_eq!(printed, PRINTED);
+    let mut record = [0; WORDS];
+    record[..BIDS].copy_from_slice(&[
+        2, 1, 2, 115_000, END, 1, 319_000, 1, 4_000, 19_000, 95_000, 319_000, 1,
+    ]);
+    record[OFFERS + 5] = 115_100;
+    record[OFFERS + 7] = 92_000;
+    record[COUNT] = 1;
+    let mut after = Book::filled(1, 0);
+    after.records[0] = record;
+    after.times[0] = 319_000;
+    after.prices[0] = 95_000;
+    assert_eq!(book, after);
+}
+
+#[test]
+fn setup_writes_every_byte() {
+    let mut book = Book::filled(2, u32::MAX);
+    assert_eq!(book.set_up(END, &[2, 3, 15, 1, 1, 1, 0, 999_999_999]), 0);
+    let mut after = Book::filled(2, 0);
+    after.records[0][..BIDS].copy_from_slice(&[2, 3, 15, 1, END, 0, 0, 1, 0, 0, 0, 0, 0]);
+    after.records[1][..BIDS].copy_from_slice(&[1, 1, 0, 999_999_999, END, 0, 0, 1, 0, 0, 0, 0, 0]);
+    assert_eq!(book, after);
+}
+
+#[test]
+fn setup_looks_at_shape_and_then_at_ranges() {
+    for (stocks, end, setups, number) in [
+        (0, END, [].as_slice(), 1),
+        (65, END, &SETUP.repeat(65), 1),
+        (64, END, &SETUP.repeat(64), 0),
+        (1, 0, &SETUP[..3], 1),
+        (1, 0, &SETUP.repeat(2), 1),
+        (1, 3_599_999, &SETUP, 2),
+        (1, 23_400_001, &SETUP, 2),
+        (1, END, &[1, 2, 0, 1], 2),
+    ] {
+        let mut book = Book::filled(stocks, 7);
+        let before = book.clone();
+        assert_eq!(book.set_up(end, setups), number);
+        assert_eq!(number == 0, book != before);
+    }
+}
+
+#[test]
+fn arrays_of_another_length_are_refused() {
+    let read = Call::Read { stock: u32::MAX };
+    for length in [0, PLACES - 1, PLACES + 1, 2 * PLACES] {
+        let mut book = Book::started();
+        book.times.resize(length, 0);
+        assert_eq!(book.play(&read).answer.number, 1);
+        book.times.resize(PLACES, 0);
+        assert_eq!(book.play(&read).answer.number, 3);
+        book.prices.resize(length, 0);
+        assert_eq!(book.set_up(END, &SETUP), 1);
+    }
+}
+
+#[test]
+fn a_refusal_leaves_all_bytes() {
+    let mut book = Book::started();
+    book.settle_and_tell(Letter::O, 1_000, [2, 115_000, 0]);
+    book.records[0][EARLY] = 7;
+    book.times[300] = 5;
+    let before = book.clone();
+    for (letter, time, rest, number) in [
+        (Letter::Q, 2_000, [16, 0, 0], 4),
+        (Letter::Q, 999, [0, 0, 0], 5),
+        (Letter::T, 31_000, [115_000, 0, 0], 6),
+        (Letter::P, 2_000, [3, 0, 0], 8),
+        (Letter::P, 2_000, [2, 0, 0], 9),
+        (Letter::T, 2_000, [91_999, 0, 0], 12),
+    ] {
+        assert_eq!(book.tell(letter, time, rest).answer.number, number);
+        assert_eq!(book, before);
+    }
+    assert_eq!(book.settle(30_999).answer.number, 14);
+    assert_eq!(book.play(&Call::Read { stock: 1 }).answer.number, 3);
+    assert_eq!(book.play(&Call::Read { stock: 0 }).answer.number, 0);
+    assert_eq!(book, before);
+}
+
+/// A Trading stock with three trades, markers other than 0 and 1 and unused places in use.
+fn odd() -> Book {
+    let mut book = Book::started();
+    book.settle_and_tell(Letter::O, 1_000, [2, 115_000, 0]);
+    book.tell(Letter::T, 1_000, [115_000, 0, 0]);
+    book.tell(Letter::T, 2_000, [115_000, 0, 0]);
+    book.records[0][EARLY] = 7;
+    book.records[0][HOLD] = 8;
+    book.times[3..].fill(6);
+    book.prices[3..].fill(5);
+    book
+}
+
+#[test]
+fn freed_places_become_0_and_other_unused_ones_stay() {
+    let mut book = odd();
+    while book.settle(301_000).answer.number == 0 {}
+    assert_eq!(book.times[..4], [2_000, 0, 0, 6]);
+    assert_eq!(book.prices[..4], [115_000, 0, 0, 5]);
+    assert_eq!(book.records[0][COUNT], 1);
+    book.tell(Letter::T, 301_500, [115_000, 0, 0]);
+    assert_eq!(book.times[..4], [2_000, 301_500, 0, 6]);
+    while book.settle(END).answer.number == 0 {}
+    assert_eq!(book.times[..4], [0, 0, 0, 6]);
+    assert_eq!(book.prices[..4], [0, 0, 0, 5]);
+    assert_eq!(book.records[0][STATE], 5);
+}
+
+#[test]
+fn markers_stay_until_they_are_written() {
+    let mut book = odd();
+    book.tell(Letter::Q, 2_500, [0, 0, 138_000]);
+    assert_eq!(book.records[0][EARLY], 7);
+    assert_eq!(book.records[0][HOLD], 8);
+    book.settle(31_000);
+    assert_eq!(book.records[0][HOLD], 0);
+    assert_eq!(book.records[0][EARLY], 7);
+
+    let mut book = Book::started();
+    book.records[0][EARLY] = 7;
+    book.records[0][HOLD] = 8;
+    book.settle(300_000);
+    assert_eq!(book.records[0][EARLY], 0);
+    assert_eq!(book.records[0][HOLD], 8);
+    book.tell(Letter::T, 300_000, [115_000, 0, 0]);
+    assert_eq!(book.records[0][HOLD], 1);
+}
+
+/// With the same dates and another reference Limit ends and begins again in one millisecond.
+#[test]
+fn a_start_in_the_same_millisecond_is_seen() {
+    let mut book = odd();
+    book.tell(Letter::Q, 2_000, [5, 138_000, 0]);
+    book.records[0][START] = 2_000;
+    assert_eq!(book.records[0][STATE], 2);
+    book.prices[..3].fill(120_000);
+    let mut stays = book.clone();
+    stays.tell(Letter::Q, 2_000, [6, 0, 144_000]);
+    assert_eq!(stays.records[0][HOLD], 8);
+    book.tell(Letter::Q, 2_000, [5, 0, 96_000]);
+    assert_eq!(book.records[0][REFERENCE], 120_000);
+    assert_eq!(book.records[0][ENTRY], 2_000);
+    assert_eq!(book.records[0][STATE], 2);
+    assert_eq!(book.records[0][HOLD], 1);
+}
+
+#[test]
+fn rubbish_is_refused() {
+    for (word, number) in [
+        (TIER, 3),
+        (LEVERAGE, 4),
+        (PRIMARY, 16),
+        (CLOSE, 0),
+        (STATE, 6),
+        (CLOCK, 999),
+        (ENTRY, END + 300_001),
+        (PAUSE, u32::MAX),
+        (REFERENCE, 0),
+        (START, 0),
+        (BIDS + 15, 1_000_000_000),
+        (OFFERS, u32::MAX),
+        (COUNT, 4),
+        (COUNT, 513),
+        (COUNT, u32::MAX),
+    ] {
+        let mut book = odd();
+        book.records[0][word] = number;
+        if word == START {
+            book.records[0][CLOCK] = 30_001;
+        }
+        let before = book.clone();
+        let given = book.play(&Call::Read { stock: 0 });
+        assert_eq!(given.answer.number, 1, "{} {number}", name(word));
+        assert_eq!(book, before);
+    }
+}
+
+#[test]
+fn what_is_not_rubbish_is_taken() {
+    for (word, number) in [
+        (EARLY, u32::MAX),
+        (HOLD, u32::MAX),
+        (ENTRY, END + 300_000),
+        (START, 2_000),
+        (CLOCK, 31_000),
+        (COUNT, 0),
+    ] {
+        let mut book = odd();
+        book.records[0][word] = number;
+        let given = book.play(&Call::Read { stock: 0 });
+        assert_eq!(given.answer.number, 0, "{} {number}", name(word));
+    }
+}

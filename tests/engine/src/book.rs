@@ -1,0 +1,157 @@
+//! A book kept twice, once for the library and once for the byte reader.
+
+use bytes::{play, Call, Given, Lent, PLACES, WORDS};
+
+use crate::library::{self, Arrays};
+use crate::report;
+use crate::tally::Tally;
+
+/// What stands before and behind each array, room for one stock each; none of it may ever change.
+const GUARD_WORD: u32 = 0xa5a5_5a5a;
+
+/// The three lengths that a call is lent.
+#[derive(Clone, Copy, Debug, PartialEq, Eq)]
+pub struct Shape {
+    pub stocks: usize,
+    pub times: usize,
+    pub prices: usize,
+}
+
+impl Shape {
+    pub fn right(stocks: usize) -> Shape {
+        Shape {
+            stocks,
+            times: PLACES * stocks,
+            prices: PLACES * stocks,
+        }
+    }
+}
+
+/// One stock's record and places.
+#[derive(Clone)]
+pub struct Snapshot {
+    pub record: [u32; WORDS],
+    pub times: [u32; PLACES],
+    pub prices: [u32; PLACES],
+}
+
+/// The three arrays, stock by stock, each between its guards: stock i stands at 1 + i.
+#[derive(Clone, PartialEq, Eq)]
+pub struct Memory {
+    pub records: Vec<[u32; WORDS]>,
+    pub times: Vec<[u32; PLACES]>,
+    pub prices: Vec<[u32; PLACES]>,
+}
+
+/// Zeros for this many stocks, between the guards.
+fn guarded<const N: usize>(stocks: usize) -> Vec<[u32; N]> {
+    let mut rows = vec![[GUARD_WORD; N]; stocks + 2];
+    rows[1..=stocks].fill([0; N]);
+    rows
+}
+
+impl Memory {
+    fn new(stocks: usize) -> Memory {
+        Memory {
+            records: guarded(stocks),
+            times: guarded(stocks),
+            prices: guarded(stocks),
+        }
+    }
+
+    /// The arrays as the byte reader takes them.
+    fn lent(&mut self, shape: Shape) -> Lent<'_> {
+        Lent {
+            records: &mut self.records[1..=shape.stocks],
+            times: &mut self.times[1..].as_flattened_mut()[..shape.times],
+            prices: &mut self.prices[1..].as_flattened_mut()[..shape.prices],
+        }
+    }
+
+    /// The arrays as the library takes them; a length of 0 still has a pointer into its array.
+    fn arrays(&mut self, shape: Shape) -> Arrays {
+        Arrays {
+            book: self.records[1..].as_mut_ptr().cast(),
+            stocks: shape.stocks,
+            times: self.times[1..].as_mut_ptr().cast(),
+            times_length: shape.times,
+            prices: self.prices[1..].as_mut_ptr().cast(),
+            prices_length: shape.prices,
+        }
+    }
+}
+
+pub struct Book {
+    /// How many stocks there is room for.
+    pub stocks: usize,
+    reader: Memory,
+    library: Memory,
+}
+
+impl Book {
+    pub fn new(stocks: usize) -> Book {
+        Book {
+            stocks,
+            reader: Memory::new(stocks),
+            library: Memory::new(stocks),
+        }
+    }
+
+    /// Plays the call on both sides with arrays of the right lengths.
+    pub fn play(&mut self, tally: &mut Tally, call: &Call) -> Given {
+        self.play_shaped(tally, Shape::right(self.stocks), call)
+    }
+
+    /// Plays the call on both sides and compares what they give back and every byte.
+    pub fn play_shaped(&mut self, tally: &mut Tally, shape: Shape, call: &Call) -> Given {
+        let room = Shape::right(self.stocks);
+        assert!(shape.stocks <= room.stocks);
+        assert!(shape.times <= room.times && shape.prices <= room.prices);
+        let expected = play(&mut self.reader.lent(shape), call);
+        // SAFETY: the three vectors are apart, and the shape is within the room of each.
+        let given = unsafe { library::play(self.library.arrays(shape), call) };
+        let good_shape = shape.stocks > 0 && shape == Shape::right(shape.stocks);
+        tally.count(call, &expected, good_shape);
+        let numbers = library::numbers(&expected);
+        if given != numbers || self.library != self.reader {
+            report::print(call, &numbers, &given);
+            report::print_words(&self.reader, &self.library);
+            self.library = self.reader.clone();
+            tally.differ();
+        }
+        expected
+    }
+
+    pub fn record(&self, stock: usize) -> &[u32; WORDS] {
+        &self.reader.records[1 + stock]
+    }
+
+    /// The times and the prices of a stock's 512 places.
+    pub fn places(&self, stock: usize) -> (&[u32; PLACES], &[u32; PLACES]) {
+        (
+            &self.reader.times[1 + stock],
+            &self.reader.prices[1 + stock],
+        )
+    }
+
+    pub fn take(&self, stock: usize) -> Snapshot {
+        let (times, prices) = self.places(stock);
+        Snapshot {
+            record: *self.record(stock),
+            times: *times,
+            prices: *prices,
+        }
+    }
+
+    /// Puts a stock into both books.
+    pub fn put(&mut self, stock: usize, snapshot: &Snapshot) {
+        for memory in [&mut self.reader, &mut self.library] {
+            memory.records[1 + stock] = snapshot.record;
+            memory.times[1 + stock] = snapshot.times;
+            memory.prices[1 + stock] = snapshot.prices;
+        }
+    }
+}
+
+const _: () = assert!(size_of::<sumpheron::raw::Record>() == 4 * WORDS);
+const _: () = assert!(align_of::<sumpheron::raw::Record>() == align_of::<u32>());

@@ -1,0 +1,219 @@
+//! Ways to break a record: numbers at the edges of the rules, any numbers, whole random records.
+
+use bytes::field::*;
+use bytes::{PLACES, WORDS};
+use second::LIMIT;
+
+use crate::book::Snapshot;
+use crate::chance::Chance;
+use crate::prices::HIGHEST;
+use crate::setups;
+
+/// Numbers at which a range of some field ends, or just past it.
+const EDGES: [u32; 27] = [
+    0,
+    1,
+    2,
+    3,
+    4,
+    5,
+    6,
+    7,
+    15,
+    16,
+    511,
+    512,
+    513,
+    299_999,
+    300_000,
+    300_001,
+    899_999,
+    900_000,
+    3_599_999,
+    3_600_000,
+    23_400_000,
+    23_400_001,
+    HIGHEST,
+    HIGHEST + 1,
+    i32::MAX as u32,
+    i32::MAX as u32 + 1,
+    u32::MAX,
+];
+
+/// How far before the clock a kept time may lie, and no further.
+const LEADS: [u32; 5] = [0, 15_000, 30_000, 300_000, 600_000];
+
+/// Numbers to put into this word of a record.
+pub fn numbers(record: &[u32; WORDS], word: usize) -> Vec<u32> {
+    let mut numbers = if (BIDS..COUNT).contains(&word) {
+        vec![0, 1, HIGHEST - 1, HIGHEST, HIGHEST + 1, u32::MAX]
+    } else {
+        edges(record)
+    };
+    numbers.retain(|&number| number != record[word]);
+    numbers
+}
+
+/// The edges of all ranges, those that depend on the session's end and on the clock too.
+fn edges(record: &[u32; WORDS]) -> Vec<u32> {
+    let mut edges = EDGES.to_vec();
+    let end = record[END];
+    for edge in [
+        end.wrapping_sub(1_500_000),
+        end.wrapping_sub(600_000),
+        end,
+        end.wrapping_add(300_000),
+    ] {
+        edges.extend(beside(edge));
+    }
+    for lead in LEADS {
+        edges.extend(beside(record[CLOCK].wrapping_sub(lead)));
+    }
+    edges
+}
+
+fn beside(number: u32) -> [u32; 3] {
+    [number.wrapping_sub(1), number, number.wrapping_add(1)]
+}
+
+/// Puts another number into one word, the quotes as often as one other field.
+pub fn break_word(chance: &mut Chance, snapshot: &mut Snapshot) {
+    let word = match chance.place(BIDS + 2) {
+        BIDS => BIDS + chance.place(COUNT - BIDS),
+        word if word > BIDS => COUNT,
+        word => word,
+    };
+    let number = if chance.one_in(8) {
+        chance.any()
+    } else {
+        chance.pick(&numbers(&snapshot.record, word))
+    };
+    snapshot.record[word] = number;
+}
+
+/// Puts another number into one of the 512 places, mostly one that is in use or just behind.
+pub fn break_place(chance: &mut Chance, snapshot: &mut Snapshot) {
+    let count = (snapshot.record[COUNT] as usize).min(PLACES - 1);
+    let place = match chance.below(8) {
+        0 => 0,
+        1 => count,
+        2 => count.saturating_sub(1),
+        3 => PLACES - 1,
+        4 => chance.place(PLACES),
+        _ => chance.place(count + 1),
+    };
+    if chance.one_in(3) {
+        let prices = [0, 1, HIGHEST, HIGHEST + 1, u32::MAX, chance.any()];
+        snapshot.prices[place] = chance.pick(&prices);
+    } else {
+        snapshot.times[place] = time_beside(chance, snapshot, place);
+    }
+}
+
+/// A time at an edge of what the trade at this place may have.
+fn time_beside(chance: &mut Chance, snapshot: &Snapshot, place: usize) -> u32 {
+    match chance.below(4) {
+        0 => chance.pick(&edges(&snapshot.record)),
+        1 => chance.about(snapshot.record[CLOCK]),
+        2 => chance.about(snapshot.times[place.saturating_sub(1)]),
+        _ => chance.about(snapshot.times[(place + 1).min(PLACES - 1)]),
+    }
+}
+
+/// Any numbers in the places that are not in use, which is no rubbish.
+pub fn litter(chance: &mut Chance, snapshot: &mut Snapshot) {
+    let count = (snapshot.record[COUNT] as usize).min(PLACES);
+    snapshot.times[count..].fill_with(|| chance.any());
+    snapshot.prices[count..].fill_with(|| chance.any());
+}
+
+/// Any bytes at all.
+pub fn any(chance: &mut Chance) -> Snapshot {
+    Snapshot {
+        record: std::array::from_fn(|_| chance.any()),
+        times: std::array::from_fn(|_| chance.any()),
+        prices: std::array::from_fn(|_| chance.any()),
+    }
+}
+
+/// Good fields that need not fit each other, so that some of these records are rubbish.
+pub fn made_up(chance: &mut Chance) -> Snapshot {
+    let mut made = any(chance);
+    let record = &mut made.record;
+    record[TIER..END].copy_from_slice(&setups::one(chance));
+    record[END] = setups::end(chance);
+    record[STATE] = chance.below(6);
+    let clock = made_up_clock(chance, record[END]);
+    record[CLOCK] = clock;
+    let mut before = |most: u32| match chance.below(3) {
+        0 => clock,
+        _ => clock.saturating_sub(chance.below(most)),
+    };
+    record[ENTRY] = before(16_000);
+    record[PAUSE] = before(620_000);
+    record[START] = before(31_000);
+    record[EARLY] = chance.below(3);
+    record[HOLD] = chance.below(3);
+    record[REFERENCE] = chance.between(0, 200_000);
+    let seldom = chance.pick(&[2, 8, 32]);
+    for quote in &mut record[BIDS..COUNT] {
+        *quote = chance.below(200_000) * u32::from(chance.one_in(seldom));
+    }
+    make_up_trades(chance, &mut made);
+    made
+}
+
+/// Limit without quotes or trades, whose reference has started just now with an odd marker.
+pub fn odd_limit(chance: &mut Chance) -> Snapshot {
+    let mut odd = made_up(chance);
+    let record = &mut odd.record;
+    record[STATE] = LIMIT;
+    record[REFERENCE] += 1;
+    record[START] = record[CLOCK];
+    record[HOLD] = 2;
+    record[BIDS..].fill(0);
+    odd
+}
+
+/// Moments that mostly fall on one time, which is given too; in no day do some of them tie.
+pub fn tied(chance: &mut Chance) -> (Snapshot, u32) {
+    let mut tied = made_up(chance);
+    let record = &mut tied.record;
+    let end = record[END];
+    let any = chance.between(0, end + 300_000);
+    let targets = [300_000, 900_000, end - 1_500_000, end, end + 300_000, any];
+    let target = chance.pick(&targets);
+    record[CLOCK] = target.saturating_sub(chance.below(10_000));
+    record[REFERENCE] += 1;
+    for (field, lead) in [(ENTRY, 15_000), (PAUSE, 600_000), (START, 30_000)] {
+        let early = chance.below(4) / 3;
+        record[field] = (target + early).saturating_sub(lead);
+    }
+    make_up_trades(chance, &mut tied);
+    let oldest = target.saturating_sub(300_000);
+    let held = tied.record[COUNT] as usize;
+    for time in &mut tied.times[..held] {
+        *time = oldest.max(*time);
+    }
+    tied.times[0] = oldest;
+    (tied, target)
+}
+
+/// Often a little after a change of k, so that Limit may have begun before it.
+fn made_up_clock(chance: &mut Chance, end: u32) -> u32 {
+    match chance.below(4) {
+        0 => 900_000 + chance.below(15_000),
+        1 => end - 1_500_000 + chance.below(15_000),
+        _ => chance.between(0, end + 300_000),
+    }
+}
+
+/// No trade, a few or some hundreds, in order and not after the clock.
+fn make_up_trades(chance: &mut Chance, made: &mut Snapshot) {
+    let clock = made.record[CLOCK];
+    let count = chance.early(10) * chance.place(57);
+    made.record[COUNT] = count as u32;
+    made.times[..count].fill_with(|| clock.saturating_sub(chance.below(300_001)));
+    made.times[..count].sort_unstable();
+    made.prices[..count].fill_with(|| chance.between(1, 200_000));
+}

@@ -1,0 +1,91 @@
+//! Prices worth trying: at the bands and beside them, and at the edge of the one percent test.
+
+use second::Answer;
+
+use crate::chance::Chance;
+
+pub const HIGHEST: u32 = 999_999_999;
+
+/// What a price is chosen by: the stock's last answer, its close and its window.
+pub struct Sight {
+    pub answer: Answer,
+    pub close: u32,
+    /// How many trades are held, and the sum of their prices.
+    pub count: u32,
+    pub sum: u64,
+}
+
+/// A price for T, O or R.
+pub fn price(chance: &mut Chance, sight: &Sight) -> u32 {
+    let answer = &sight.answer;
+    if chance.one_in(24) {
+        return extreme(chance);
+    }
+    if answer.upper == 0 {
+        return without_bands(chance, sight);
+    }
+    match chance.below(8) {
+        0 => below_or_at(chance, answer.lower),
+        1 => answer.upper + chance.below(2),
+        2 => answer.reference,
+        3..=5 => edge_of_test(chance, sight),
+        _ => chance.between(answer.lower.max(1), answer.upper.min(HIGHEST)),
+    }
+}
+
+fn below_or_at(chance: &mut Chance, price: u32) -> u32 {
+    price.saturating_sub(chance.below(2))
+}
+
+/// Absent, the range's edges and past them.
+fn extreme(chance: &mut Chance) -> u32 {
+    chance.pick(&[0, 1, 2, 100, HIGHEST, HIGHEST + 1, u32::MAX])
+}
+
+/// Before the first reference and in a pause prices stay about the close or the reference.
+fn without_bands(chance: &mut Chance, sight: &Sight) -> u32 {
+    let middle = match sight.answer.reference {
+        0 => sight.close,
+        reference => reference,
+    };
+    let near = middle / 20;
+    match chance.below(4) {
+        0 => middle,
+        1 => chance.between(1, 3_000),
+        _ => chance.between(
+            (middle - near).max(1),
+            middle.saturating_add(near).min(HIGHEST),
+        ),
+    }
+}
+
+/// The trade after which the mean just is, or just is not, one percent away.
+fn edge_of_test(chance: &mut Chance, sight: &Sight) -> u32 {
+    let count = i64::from(sight.count) + 1;
+    let reference = i64::from(sight.answer.reference);
+    let far = i64::from(sight.answer.reference.div_ceil(100));
+    let short = i64::from(chance.one_in(2));
+    // Of (2s + c) / 2c, dropping the rest, the least s that gives the mean, and the most.
+    let sum = if chance.one_in(2) {
+        (2 * count * (reference + far) - count + 1).div_euclid(2) - short
+    } else {
+        (2 * count * (reference - far) + count - 1).div_euclid(2) + short
+    };
+    (sum - sight.sum as i64).clamp(1, i64::from(HIGHEST)) as u32
+}
+
+/// One side of a quote.
+pub fn side(chance: &mut Chance, sight: &Sight) -> u32 {
+    let answer = &sight.answer;
+    match chance.below(20) {
+        0 => extreme(chance),
+        1..=3 => 0,
+        4..=6 => below_or_at(chance, answer.lower),
+        7..=9 => answer.upper.wrapping_add(chance.below(2)),
+        10 => chance.about(answer.lower),
+        11 => chance.about(answer.upper),
+        12 => chance.about(answer.bid),
+        13 => chance.about(answer.offer),
+        _ => chance.between(answer.lower, answer.upper),
+    }
+}

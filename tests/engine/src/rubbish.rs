@@ -1,0 +1,157 @@
+//! Every kind of call on broken records and places.
+
+use bytes::field::{CLOCK, COUNT};
+use bytes::WORDS;
+use second::Letter;
+
+use crate::book::{Book, Snapshot};
+use crate::breaks;
+use crate::player::Player;
+use crate::Run;
+
+/// Of each state so many records are broken word by word, and each pair of words.
+const RECORDS: usize = 6;
+const BROKEN_WORDS: usize = 40_000;
+const BROKEN_PLACES: usize = 20_000;
+const MADE_UP: usize = 40_000;
+const ODD_LIMITS: usize = 5_000;
+const TIED: usize = 20_000;
+const ANY_BYTES: usize = 2_000;
+/// After a break the player goes on for so many steps.
+const WALK: usize = 6;
+
+pub fn all(run: &mut Run) {
+    for snapshot in run.pool.some(RECORDS) {
+        word_by_word(run, &snapshot);
+        pair_by_pair(run, &snapshot);
+    }
+    broken(run);
+    made_up(run);
+}
+
+/// Good records, broken at random.
+fn broken(run: &mut Run) {
+    for _ in 0..BROKEN_WORDS {
+        let mut broken = run.pool.pick(&mut run.chance);
+        for _ in 0..run.chance.between(1, 3) {
+            breaks::break_word(&mut run.chance, &mut broken);
+        }
+        try_and_walk(run, broken);
+    }
+    for _ in 0..BROKEN_PLACES {
+        let mut broken = run.pool.pick(&mut run.chance);
+        breaks::break_place(&mut run.chance, &mut broken);
+        try_and_walk(run, broken);
+    }
+}
+
+/// Records that come from no book.
+fn made_up(run: &mut Run) {
+    for _ in 0..MADE_UP {
+        let mut made = breaks::made_up(&mut run.chance);
+        if run.chance.one_in(8) {
+            breaks::break_word(&mut run.chance, &mut made);
+        }
+        try_and_walk(run, made);
+    }
+    for _ in 0..ODD_LIMITS {
+        let odd = breaks::odd_limit(&mut run.chance);
+        quotes_now(run, &odd);
+    }
+    for _ in 0..TIED {
+        let (tied, target) = breaks::tied(&mut run.chance);
+        settle_to(run, &tied, target);
+    }
+    for _ in 0..ANY_BYTES {
+        let mut any = breaks::any(&mut run.chance);
+        any.record[COUNT] %= 600;
+        try_and_walk(run, any);
+    }
+}
+
+/// Each number of the record broken by itself.
+fn word_by_word(run: &mut Run, good: &Snapshot) {
+    let mut book = Book::new(1);
+    book.put(0, good);
+    let mut player = Player::new(&mut book, run);
+    let mut broken = good.clone();
+    for word in 0..WORDS {
+        for number in breaks::numbers(&good.record, word) {
+            broken.record[word] = number;
+            try_all(&mut player, 0, &broken);
+        }
+        broken.record[word] = good.record[word];
+    }
+}
+
+/// Each two numbers of the record broken at once.
+fn pair_by_pair(run: &mut Run, good: &Snapshot) {
+    let mut book = Book::new(1);
+    book.put(0, good);
+    let mut player = Player::new(&mut book, run);
+    for first in 0..WORDS {
+        for second in 0..first {
+            let mut broken = good.clone();
+            for word in [first, second] {
+                let numbers = breaks::numbers(&good.record, word);
+                broken.record[word] = player.run.chance.pick(&numbers);
+            }
+            try_all(&mut player, 0, &broken);
+        }
+    }
+}
+
+/// Every kind of call but setup on this record, as it stands.
+fn try_all(player: &mut Player, stock: usize, broken: &Snapshot) {
+    player.book.put(stock, broken);
+    player.read(stock);
+    let time = player.time(stock);
+    if player.settle_once(stock, time).answer.number == 0 {
+        player.book.put(stock, broken);
+    }
+    for letter in Letter::ALL {
+        let time = player.time(stock);
+        if player.tell(stock, letter, time).answer.number == 0 {
+            player.book.put(stock, broken);
+        }
+    }
+}
+
+/// Quotes in the millisecond of the clock, some of which end Limit and begin it again.
+fn quotes_now(run: &mut Run, odd: &Snapshot) {
+    let mut book = Book::new(1);
+    book.put(0, odd);
+    let mut player = Player::new(&mut book, run);
+    for _ in 0..8 {
+        player.book.put(0, odd);
+        player.tell(0, Letter::Q, odd.record[CLOCK]);
+    }
+}
+
+/// Settles all that is due at this time and takes a step.
+fn settle_to(run: &mut Run, tied: &Snapshot, target: u32) {
+    let mut book = Book::new(1);
+    book.put(0, tied);
+    let mut player = Player::new(&mut book, run);
+    player.settle_all(0, target);
+    player.step(0);
+}
+
+/// Every kind of call on this record beside others of any bytes, and then a few steps from it.
+fn try_and_walk(run: &mut Run, mut broken: Snapshot) {
+    if run.chance.one_in(4) {
+        breaks::litter(&mut run.chance, &mut broken);
+    }
+    let stocks = 1 + run.chance.early(3);
+    let stock = run.chance.place(stocks);
+    let mut book = Book::new(stocks);
+    for other in 0..stocks {
+        let any = breaks::any(&mut run.chance);
+        book.put(other, if other == stock { &broken } else { &any });
+    }
+    let mut player = Player::new(&mut book, run);
+    try_all(&mut player, stock, &broken);
+    for _ in 0..WALK {
+        player.step(stock);
+    }
+}
