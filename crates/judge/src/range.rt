@@ -1,6 +1,8 @@
 // What is out of range, and of a stock, its window left aside, what is rubbish.
 ghost use mathlib.Core.Path.{_≡_};
 ghost use mathlib.Core.List.{foldl};
+ghost use lib.Dec.{ltb};
+ghost use Rattle.forms.specs.Choice.{if_then_else_};
 ghost use Rattle.rules.specs.Numbers.{notPrice, notTime, badTimes, orNotSide, badQuotes, badReference, badStock};
 use crate::moment;
 use rules::CLOSED;
@@ -37,15 +39,25 @@ fn bad_times(s: Stock) -> bool
     (last < clock) | (last < start) | (last < entry) | (last < pause)
 }
 
-// Whether one was bad before, or one of the sides is out of range.
+// The greater of two numbers.
+fn greater(a: u32, b: u32) -> u32
+    ensures { λ r. ⌜ r ≡ (if ltb a b then b else a) ⌝ }
+{
+    if a < b {
+        return b;
+    }
+    a
+}
+
+// Whether one was bad before, or one of the sides is out of range: the highest is, where one is.
 fn or_not_sides(bad: bool, sides: [u32; 16]) -> bool
     ensures { λ r. ⌜ r ≡ foldl orNotSide bad sides ⌝ }
 {
-    let mut b = bad;
+    let mut most: u32 = 0;
     for i in 0..16 {
-        b = b | (HIGHEST_PRICE < sides[i]);
+        most = greater(most, sides[i]);
     }
-    b
+    bad | (HIGHEST_PRICE < most)
 }
 
 // Whether a bid or an offer is out of range.

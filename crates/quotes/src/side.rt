@@ -1,6 +1,8 @@
 // One side of the quotes, and when bands are in force.
+ghost use Prim.Native.Nat.{_+_, _-_, _%_, _≤_, min};
 ghost use mathlib.Core.Path.{_≡_};
-ghost use Rattle.rules.specs.Quotes.{inForce, kTime, higher, lesser, bestBid, bestOffer, bidFlag, offerFlag};
+ghost use Rattle.forms.specs.Choice.{if_then_else_};
+ghost use Rattle.rules.specs.Quotes.{inForce, kTime, bestBid, bestOffer, bidFlag, offerFlag};
 use band::Limits;
 use rules::LIMIT;
 use rules::Stock;
@@ -28,58 +30,79 @@ pub(crate) fn k_time(s: Stock) -> u32
     c.clock
 }
 
-// The better of two bids, the first of which counts or is absent.
-pub(crate) fn higher_of(on: bool, upper: u64, best: u32, bid: u32) -> u32
-    ensures { λ r. ⌜ r ≡ higher on upper best bid ⌝ }
+// The price, or the greatest that 32 bits hold.
+fn clipped(price: u64) -> u32
+    ensures { λ r. ⌜ r ≡ min price 4_294_967_295 ⌝ }
 {
-    if on & (upper < (bid as u64)) {
-        return best;
+    if price < 4_294_967_295 {
+        return price as u32;
     }
-    if best < bid {
-        return bid;
-    }
-    best
+    4_294_967_295
 }
 
-// The best bid, 0 where none counts.
+// The highest bid that would count.
+fn cap_of(on: bool, upper: u64) -> u32
+    ensures { λ r. ⌜ r ≡ (if on then min upper 4_294_967_295 else 4_294_967_295) ⌝ }
+{
+    if on {
+        return clipped(upper);
+    }
+    4_294_967_295
+}
+
+// The highest offer that would not count; an absent one is 0.
+fn floor_of(on: bool, lower: u64) -> u32
+    ensures { λ r. ⌜ r ≡ (if on then min (lower - 1) 4_294_967_295 else 0) ⌝ }
+{
+    if on {
+        if lower == 0 {
+            return 0;
+        }
+        return clipped(lower - 1);
+    }
+    0
+}
+
+// The distance from one price up to another, or `gap` where that is less; to a lower price the way goes round.
+fn nearer(from: u64, to: u32, gap: u32) -> u32
+    requires { ⌜ from ≤ 4_294_967_296 ⌝ }
+    ensures { λ r. ⌜ r ≡ min gap ((to + 4_294_967_296 - from) % 4_294_967_296) ⌝ }
+{
+    let d = (((to as u64) + 4_294_967_296 - from) % 4_294_967_296) as u32;
+    if d < gap {
+        return d;
+    }
+    gap
+}
+
+// The best bid, 0 where none counts: going down from the cap and round, 0 comes before every bid that does not count.
 pub(crate) fn best_bid(on: bool, upper: u64, bids: [u32; 16]) -> u32
     ensures { λ r. ⌜ r ≡ bestBid on upper bids ⌝ }
 {
-    let mut best: u32 = 0;
+    let cap = cap_of(on, upper);
+    let mut gap = cap;
     for i in 0..16 {
-        best = higher_of(on, upper, best, bids[i]);
+        let bid = bids[i];
+        gap = nearer(bid as u64, cap, gap);
     }
-    best
+    cap - gap
 }
 
-// The better of two offers, the first of which counts or is absent.
-pub(crate) fn lesser_of(on: bool, lower: u64, best: u32, offer: u32) -> u32
-    ensures { λ r. ⌜ r ≡ lesser on lower best offer ⌝ }
-{
-    if offer == 0 {
-        return best;
-    }
-    if on & ((offer as u64) < lower) {
-        return best;
-    }
-    if best == 0 {
-        return offer;
-    }
-    if offer < best {
-        return offer;
-    }
-    best
-}
-
-// The best offer, 0 where none counts.
+// The best offer, 0 where none counts: going up from the least that counts and round, 0 comes before every other that does not.
 pub(crate) fn best_offer(on: bool, lower: u64, offers: [u32; 16]) -> u32
     ensures { λ r. ⌜ r ≡ bestOffer on lower offers ⌝ }
 {
-    let mut best: u32 = 0;
+    let least = (floor_of(on, lower) as u64) + 1;
+    let none = (4_294_967_296 - least) as u32;
+    let mut gap = none;
     for i in 0..16 {
-        best = lesser_of(on, lower, best, offers[i]);
+        let offer = offers[i];
+        gap = nearer(least, offer, gap);
     }
-    best
+    if gap < none {
+        return ((gap as u64) + least) as u32;
+    }
+    0
 }
 
 // The best bid's flag.

@@ -1,12 +1,13 @@
 -- The loops of src/pass.rt: a turn of each and its end, and what the two passes of a survey come to together.
 -- Assumes nothing.
-use Prim.Native.Nat.{ℕ, zero, suc, _+_, _≤_, _<_}
+use Prim.Native.Nat.{ℕ, zero, suc, _+_, _*_, _/_, _%_, _≤_, _<_}
 use mathlib.Core.Bool.{Bool, true, false, _||_}
 use mathlib.Core.List.{List, [], _∷_, foldl, foldl-append}
 use mathlib.Core.Path.{_≡_, refl, sym, ap, _∙_}
+use native.Mathlib.Nat.{mod-lt, mod-add-div}
 use native.Mathlib.Numerals.{add-one}
 use native.Mathlib.Omega.{arith}
-use borrow.Author.Tests.{lt-ltb, le-ltb}
+use borrow.Author.Tests.{ltb-true, ltb-false, lt-ltb, le-ltb}
 use lib.Dec.{ltb}
 use lib.ListN.{length, getD, take, drop, length-take, drop-of-length-le, List·getD-eq-default}
 use lib.Seq.{take-suc, drop-cons, getD-take, length-take-le}
@@ -15,8 +16,7 @@ use Rattle.forms.proofs.Choice.{if-true, if-false}
 use Rattle.forms.proofs.Loops.{fold-turn, fold-end}
 use Rattle.rules.specs.Numbers.{Seen, notPrice, badTrade, see, badTrades}
 use Rattle.window.specs.Places.{trades, leftOf}
-use Rattle.window.specs.Passes.{seeTime, timesSeen, seePrice, pricesSeen}
-use Rattle.window.specs.declared.pass.Prices.{Prices}
+use Rattle.window.specs.Passes.{seeTime, timesSeen, seePrice, pricesBad}
 
 -- ------------------------------------------------------------------ a loop over the first n places
 
@@ -27,10 +27,49 @@ module _ {A : Type 0} (f : A → ℕ → A) (xs : List ℕ) (n i : ℕ) (a w : A
   pub done : n ≤ i → a ≡ w
   done h = fold-end f (take n xs) a w n i (length-take-le n xs m) h so-far
 
--- the times leave one answer
-pub bad-done : (clock n i : ℕ) (xs : List ℕ) (bad : Bool) (before : ℕ) (w : Seen)
-    → foldl (seeTime clock) (record { bad = bad; last = before }) (drop i (take n xs)) ≡ w → n ≤ length xs → n ≤ i → bad ≡ w .bad
-bad-done clock n i xs bad before w q m h = ap (λ (s : Seen). s .bad) (done (seeTime clock) xs n i _ w q m h)
+-- ------------------------------------------------------------------ the times
+
+-- held against the clock is only the time at hand: a time after it is followed by one after it, or by one before itself
+latest : (bad : Bool) (clock before t : ℕ) → ((bad || ltb t before) || ltb clock t) ≡ (((bad || ltb clock before) || ltb clock t) || ltb t before)
+latest true clock before t = refl
+latest false clock before t = go (ltb clock before) (ltb clock t) (ltb t before) refl refl refl
+  where
+    go : (a b c : Bool) → ltb clock before ≡ a → ltb clock t ≡ b → ltb t before ≡ c → (c || b) ≡ ((a || b) || c)
+    go true true true _ _ _ = refl
+    go true true false _ _ _ = refl
+    go true false true _ _ _ = refl
+    go true false false p q r =
+        let z : ⊥ = omega (arith, ltb-true clock before p, ltb-false clock t q, ltb-false t before r) in
+        absurd z
+    go false true true _ _ _ = refl
+    go false true false _ _ _ = refl
+    go false false true _ _ _ = refl
+    go false false false _ _ _ = refl
+
+pub times-start : (clock : ℕ) (xs : List ℕ) → foldl (seeTime clock) (record { bad = false || ltb clock 0; last = 0 }) xs ≡ timesSeen clock xs
+unfolding timesSeen
+times-start clock xs = rw (le-ltb clock 0 (omega arith)) refl
+
+module _ (clock n i : ℕ) (xs : List ℕ) (bad : Bool) (before : ℕ) (w : Seen)
+    (so-far : foldl (seeTime clock) (record { bad = bad || ltb clock before; last = before }) (drop i (take n xs)) ≡ w) (m : n ≤ length xs) where
+  pub time-turn : i < n → foldl (seeTime clock) (record { bad = (bad || ltb (getD xs i 0) before) || ltb clock (getD xs i 0); last = getD xs i 0 }) (drop (i + 1) (take n xs)) ≡ w
+  unfolding seeTime
+  time-turn h = turn (seeTime clock) xs n i _ w so-far m _ h (ap (λ (b : Bool). record { bad = b; last = getD xs i 0 }) (latest bad clock before (getD xs i 0)))
+
+  pub times-done : n ≤ i → (bad || ltb clock before) ≡ w .bad
+  times-done h = ap (λ (s : Seen). s .bad) (done (seeTime clock) xs n i _ w so-far m h)
+
+-- ------------------------------------------------------------------ the sum of prices, in halves
+
+pub low-half : (p : ℕ) → p % 65_536 ≤ 65_535
+low-half p = omega (arith, mod-lt p {m = 65_536} (omega arith))
+
+pub high-half : (p : ℕ) → p < 4_294_967_296 → p / 65_536 ≤ 65_535
+high-half p h = omega (arith, mod-add-div p 65_536)
+
+module _ (xs : List ℕ) (n i low high w : ℕ) (so-far : foldl _+_ (65_536 * high + low) (drop i (take n xs)) ≡ w) (m : n ≤ length xs) where
+  pub sum-turn : i < n → foldl _+_ (65_536 * (high + getD xs i 0 / 65_536) + (low + getD xs i 0 % 65_536)) (drop (i + 1) (take n xs)) ≡ w
+  sum-turn h = turn _+_ xs n i _ w so-far m _ h (omega (arith, mod-add-div (getD xs i 0) 65_536))
 
 -- a place of the first n, and past them
 pub at-here : (i n : ℕ) (xs : List ℕ) → i < n → getD xs i 0 ≡ getD (take n xs) i 0
@@ -97,22 +136,13 @@ apart false false false false false false = refl
 -- the trades are gone over as the times and the prices are, side by side
 side-by-side : (clock n : ℕ) (ts ps : List ℕ) → n ≤ length ts → n ≤ length ps
     → foldl (see clock) (record { bad = false; last = 0 }) (trades n ts ps)
-    ≡ record { bad = timesSeen clock (take n ts) .bad || pricesSeen (take n ps) .bad; last = timesSeen clock (take n ts) .last }
-unfolding trades see badTrade notPrice timesSeen seeTime pricesSeen seePrice
+    ≡ record { bad = timesSeen clock (take n ts) .bad || pricesBad (take n ps); last = timesSeen clock (take n ts) .last }
+unfolding trades see badTrade notPrice timesSeen seeTime pricesBad seePrice
 side-by-side clock zero ts ps h k = refl
 side-by-side clock (suc n) ts ps h k =
     simp (foldl-append, side-by-side clock n ts ps (omega arith) (omega arith), take-suc ts n 0 (omega arith), take-suc ps n 0 (omega arith), apart)
 
 pub judged : (clock n : ℕ) (ts ps : List ℕ) → n ≤ length ts → n ≤ length ps
-    → badTrades clock (trades n ts ps) ≡ (timesSeen clock (take n ts) .bad || pricesSeen (take n ps) .bad)
+    → badTrades clock (trades n ts ps) ≡ (timesSeen clock (take n ts) .bad || pricesBad (take n ps))
 unfolding badTrades
 judged clock n ts ps h k = ap (λ (s : Seen). s .bad) (side-by-side clock n ts ps h k)
-
-seen-sum : (s : Prices) (xs : List ℕ) → foldl seePrice s xs .sum ≡ foldl _+_ (s .sum) xs
-unfolding seePrice
-seen-sum s [] = refl
-seen-sum s (x ∷ xs) = seen-sum (seePrice s x) xs
-
-pub sum-seen : (xs : List ℕ) → pricesSeen xs .sum ≡ foldl _+_ 0 xs
-unfolding pricesSeen
-sum-seen xs = seen-sum _ xs

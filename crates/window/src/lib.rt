@@ -48,19 +48,16 @@ pub fn survey(clock: u32, count: u32, times: &[u32], prices: &[u32]) -> Surveyed
     if 512 < n {
         return none;
     }
-    let bad = pass::bad_times(clock, n, times);
-    let p = pass::over_prices(n, prices);
-    if bad | p.bad {
+    let late = pass::bad_times(clock, n, times);
+    let wrong = pass::bad_prices(n, prices);
+    if late | wrong {
         return none;
     }
     let oldest = pass::at(0, n, times);
+    let sum = pass::sum(0, n, prices);
     Surveyed {
         sound: true,
-        figures: Figures {
-            count,
-            oldest,
-            sum: p.sum,
-        },
+        figures: Figures { count, oldest, sum },
     }
 }
 

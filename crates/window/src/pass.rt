@@ -5,14 +5,8 @@ ghost use mathlib.Core.List.{foldl};
 ghost use Prim.Native.Nat.{_+_, _≤_};
 ghost use lib.ListN.{length, getD, take, drop};
 ghost use Rattle.window.specs.Places.{leftOf};
-ghost use Rattle.window.specs.Passes.{timesSeen, pricesSeen};
+ghost use Rattle.window.specs.Passes.{timesSeen, pricesBad};
 use rules::HIGHEST_PRICE;
-
-// Whether a price is out of range, and the sum of all.
-pub struct Prices {
-    pub bad: bool,
-    pub sum: u64,
-}
 
 // Whether one of the first `n` times is after the clock or before the time ahead of it.
 pub(crate) fn bad_times(clock: u32, n: usize, times: &[u32]) -> bool
@@ -23,25 +17,24 @@ pub(crate) fn bad_times(clock: u32, n: usize, times: &[u32]) -> bool
     let mut before: u32 = 0;
     for i in 0..n {
         let t = times[i];
-        bad = bad | (clock < t) | (t < before);
+        bad = bad | (t < before);
         before = t;
     }
-    bad
+    // of times in order the last is the latest
+    bad | (clock < before)
 }
 
-// Whether one of the first `n` prices is out of range, and their sum.
-pub(crate) fn over_prices(n: usize, prices: &[u32]) -> Prices
-    requires { ⌜ (n ≤ 512) × (n ≤ length (now prices)) ⌝ }
-    ensures { λ r. ⌜ r ≡ pricesSeen (take n (now (prices .entry))) ⌝ }
+// Whether one of the first `n` prices is out of range.
+pub(crate) fn bad_prices(n: usize, prices: &[u32]) -> bool
+    requires { ⌜ n ≤ length (now prices) ⌝ }
+    ensures { λ r. ⌜ r ≡ pricesBad (take n (now (prices .entry))) ⌝ }
 {
     let mut bad = false;
-    let mut sum: u64 = 0;
     for i in 0..n {
         let p = prices[i];
         bad = bad | (p == 0) | (HIGHEST_PRICE < p);
-        sum += p as u64;
     }
-    Prices { bad, sum }
+    bad
 }
 
 // The time in place `i` of the first `n`, 0 past them.
@@ -72,14 +65,18 @@ pub(crate) fn gone_in(time: u32, n: usize, times: &[u32]) -> usize
     k
 }
 
-// The sum of the first `n` prices without the first `from`.
+// The sum of the first `n` prices without the first `from`; their halves of 16 bits are summed apart, so that a
+// turn has no number of 64 bits, of which a vector holds only half as many.
 pub(crate) fn sum(from: usize, n: usize, prices: &[u32]) -> u64
     requires { ⌜ (from ≤ n) × (n ≤ 512) × (n ≤ length (now prices)) ⌝ }
     ensures { λ r. ⌜ r ≡ foldl _+_ 0 (drop from (take n (now (prices .entry)))) ⌝ }
 {
-    let mut sum: u64 = 0;
+    let mut low: u32 = 0;
+    let mut high: u32 = 0;
     for i in from..n {
-        sum += prices[i] as u64;
+        let p = prices[i];
+        low += p % 65_536;
+        high += p / 65_536;
     }
-    sum
+    65_536 * (high as u64) + (low as u64)
 }
