@@ -9,7 +9,7 @@
 
 #include "sumpheron.h"
 
-enum { SIZE = 1 << 16, PATTERN = 0xa5, STOCKS = SUMPHERON_STOCKS, HELD = SUMPHERON_PLACES };
+enum { SIZE = 1 << 16, PATTERN = 0xa5, STOCKS = SUMPHERON_MOST_STOCKS, HELD = SUMPHERON_PLACES };
 enum { END = 23400000, NOON = 1000000, PRICE = 100000 };
 enum function { EMPTY, SETUP, SETTLE, READ, TRADE, QUOTE, OPENING, PAUSE, REOPENING, CLOSING, FUNCTIONS };
 
@@ -17,7 +17,7 @@ static const char *const names[FUNCTIONS] = {"empty", "setup", "settle", "read",
 static long most[FUNCTIONS];
 
 static struct sumpheron_record book[STOCKS];
-static uint32_t times[STOCKS * HELD], prices[STOCKS * HELD], setups[STOCKS * SUMPHERON_SETUP];
+static uint32_t times[STOCKS * HELD], prices[STOCKS * HELD], setups[STOCKS * SUMPHERON_SETUP_NUMBERS];
 
 /* The call to be made and its answer, in globals since a context is handed no pointers. */
 static struct { enum function function; uint32_t time, participant, bid, price; } call;
@@ -25,20 +25,20 @@ static uint32_t number;
 static unsigned char stack[SIZE] __attribute__((aligned(64)));
 static ucontext_t here, there;
 
-#define LENT book, STOCKS, times, STOCKS * HELD, prices, STOCKS * HELD
+#define BOOK SUMPHERON_BOOK(book, STOCKS, times, prices)
 
 static void perform(void)
 {
     switch (call.function) {
-    case SETUP: number = sumpheron_setup(LENT, END, setups, STOCKS * SUMPHERON_SETUP).number; break;
-    case SETTLE: number = sumpheron_settle(LENT, 0, call.time).answer.number; break;
-    case READ: number = sumpheron_read(LENT, 0).number; break;
-    case TRADE: number = sumpheron_trade(LENT, 0, call.time, call.price).number; break;
-    case QUOTE: number = sumpheron_quote(LENT, 0, call.time, call.participant, call.bid, call.price).number; break;
-    case OPENING: number = sumpheron_opening(LENT, 0, call.time, call.participant, call.price).number; break;
-    case PAUSE: number = sumpheron_pause(LENT, 0, call.time, call.participant).number; break;
-    case REOPENING: number = sumpheron_reopening(LENT, 0, call.time, call.participant, call.price).number; break;
-    case CLOSING: number = sumpheron_closing(LENT, 0, call.time, call.participant, call.price).number; break;
+    case SETUP: number = sumpheron_setup(BOOK, END, setups, STOCKS * SUMPHERON_SETUP_NUMBERS).number; break;
+    case SETTLE: number = sumpheron_settle(BOOK, 0, call.time).answer.number; break;
+    case READ: number = sumpheron_read(BOOK, 0).number; break;
+    case TRADE: number = sumpheron_trade(BOOK, 0, call.time, call.price).number; break;
+    case QUOTE: number = sumpheron_quote(BOOK, 0, call.time, call.participant, call.bid, call.price).number; break;
+    case OPENING: number = sumpheron_opening(BOOK, 0, call.time, call.participant, call.price).number; break;
+    case PAUSE: number = sumpheron_pause(BOOK, 0, call.time, call.participant).number; break;
+    case REOPENING: number = sumpheron_reopening(BOOK, 0, call.time, call.participant, call.price).number; break;
+    case CLOSING: number = sumpheron_closing(BOOK, 0, call.time, call.participant, call.price).number; break;
     default: number = SUMPHERON_DONE;
     }
 }
@@ -132,7 +132,7 @@ static void opened(uint32_t held)
     }
 }
 
-/* A pause on a straddle, and the ends of pauses; a pause that ends while trades are held is written into the record. */
+/* A pause while a side has flag 2, and the ends of pauses; a pause that ends while trades are held is written into the record. */
 static void paused(uint32_t held)
 {
     prepare(NOON, held, PRICE);
@@ -151,7 +151,7 @@ static void paused(uint32_t held)
 int main(void)
 {
     for (int stock = 0; stock < STOCKS; stock++)
-        memcpy(setups + SUMPHERON_SETUP * stock, (uint32_t[]){1, 1, 0, PRICE}, sizeof(uint32_t[SUMPHERON_SETUP]));
+        memcpy(setups + SUMPHERON_SETUP_NUMBERS * stock, (uint32_t[]){1, 1, 0, PRICE}, sizeof(uint32_t[SUMPHERON_SETUP_NUMBERS]));
     run(EMPTY, 0, 0, SUMPHERON_WAITING);
     for (uint32_t held = 0; held <= HELD; held += HELD)
         limits(held), opened(held), paused(held);

@@ -22,18 +22,20 @@
  *
  *     static struct sumpheron_record book[1];
  *     static uint32_t times[SUMPHERON_PLACES], prices[SUMPHERON_PLACES];
+ *     #define BOOK SUMPHERON_BOOK(book, 1, times, prices)
  *
  *     int main(void) {
- *         const uint32_t setups[SUMPHERON_SETUP] = {2, 1, 2, 115000};      // tier, leverage, primary, previous close
- *         struct sumpheron_answer a = sumpheron_setup(book, 1, times, SUMPHERON_PLACES, prices, SUMPHERON_PLACES, 23400000, setups, SUMPHERON_SETUP);
+ *         const uint32_t setups[SUMPHERON_SETUP_NUMBERS] = {2, 1, 2, 115000};   // tier, leverage, primary, previous close
+ *         struct sumpheron_answer a = sumpheron_setup(BOOK, 23400000, setups, SUMPHERON_SETUP_NUMBERS);
  *         if (a.number != SUMPHERON_DONE)
  *             return 1;
- *         struct sumpheron_notice n;                                       // before each message: every moment due by its time
+ *         struct sumpheron_notice n;               // before each message: every moment due by its time
  *         do
- *             n = sumpheron_settle(book, 1, times, SUMPHERON_PLACES, prices, SUMPHERON_PLACES, 0, 1000);
+ *             n = sumpheron_settle(BOOK, 0, 1000);
  *         while (n.answer.number == SUMPHERON_DONE);
- *         a = sumpheron_opening(book, 1, times, SUMPHERON_PLACES, prices, SUMPHERON_PLACES, 0, 1000, 2, 115000);
- *         printf("%" PRIu32 ": trades from %" PRIu64 " to %" PRIu64 "\n", a.number, a.lower, a.upper);   // 0: trades from 92000 to 138000
+ *         a = sumpheron_opening(BOOK, 0, 1000, 2, 115000);
+ *         if (a.number == SUMPHERON_DONE)
+ *             printf("trades from %" PRIu64 " to %" PRIu64 "\n", a.lower, a.upper);   // trades from 92000 to 138000
  *     }
  */
 #ifndef SUMPHERON_H
@@ -46,16 +48,24 @@
 extern "C" {
 #endif
 
+/* Counts up whenever a struct or a function changes: a header and a library of different versions must not be mixed, since an
+ * answer is written to the size that the library knows. */
+#define SUMPHERON_VERSION 1
+
 /* ---------------------------------------------------------------- sizes */
 
 /* A book has at most this many stocks. */
-#define SUMPHERON_STOCKS 64
+#define SUMPHERON_MOST_STOCKS 64
 /* Each stock owns this many places of times, and of prices: those from SUMPHERON_PLACES times its number on. */
 #define SUMPHERON_PLACES 512
 /* A setup's list has this many numbers for each stock: tier, leverage, primary participant, previous close. */
-#define SUMPHERON_SETUP 4
+#define SUMPHERON_SETUP_NUMBERS 4
 /* Participants are numbered from 0 to one less than this. */
 #define SUMPHERON_PARTICIPANTS 16
+
+/* The six arguments that begin every call: the three arrays of a book of so many stocks, each with its length. */
+#define SUMPHERON_BOOK(records, stocks, times, prices) \
+    (records), (stocks), (times), SUMPHERON_PLACES * (size_t)(stocks), (prices), SUMPHERON_PLACES * (size_t)(stocks)
 
 /* ---------------------------------------------------------------- numbers */
 
@@ -73,14 +83,14 @@ enum sumpheron_number {
     /* a price, a participant or a time is out of range */
     SUMPHERON_OUT_OF_RANGE = 4,
     /* a message's time is before the stock's clock */
-    SUMPHERON_TOO_EARLY = 5,
+    SUMPHERON_BEFORE_CLOCK = 5,
     /* a moment not after the message's time is not settled: settle first */
     SUMPHERON_UNSETTLED = 6,
     /* the participant is not the stock's primary listing exchange */
     SUMPHERON_NOT_PRIMARY = 8,
     /* the stock is Closed */
     SUMPHERON_CLOSED_STOCK = 7,
-    /* the state takes no such message; also an opening at 300,000 or later, and a pause without a straddle */
+    /* the state takes no such message; also an opening at 300,000 or later, and a pause while no side has flag 2 (non-executable) */
     SUMPHERON_WRONG_STATE = 9,
     /* a trade in a pause */
     SUMPHERON_IN_PAUSE = 11,
@@ -114,10 +124,11 @@ enum sumpheron_state {
 enum sumpheron_flag {
     /* there is none */
     SUMPHERON_FLAG_ABSENT = 0,
+    /* neither of the following, or no bands are in force */
     SUMPHERON_FLAG_PLAIN = 1,
-    /* not executable: a bid below the lower band, an offer above the upper band */
-    SUMPHERON_FLAG_BEYOND = 2,
-    /* at the limit: a bid at the upper band, an offer at the lower band */
+    /* a bid below the lower band, an offer above the upper band */
+    SUMPHERON_FLAG_NON_EXECUTABLE = 2,
+    /* a bid at the upper band, an offer at the lower band */
     SUMPHERON_FLAG_LIMIT = 3
 };
 
@@ -213,44 +224,63 @@ struct sumpheron_notice {
 /* ---------------------------------------------------------------- the book */
 
 /* Starts the whole book, for a session that ends at `end` (3,600,000 to 23,400,000): stock i has the tier, leverage, primary and
- * close that stand at SUMPHERON_SETUP times i in `setups`. Every byte of the three arrays is written. Answers 0, 1 or 2, with zeros. */
-struct sumpheron_answer sumpheron_setup(struct sumpheron_record *book, size_t stocks, uint32_t *times, size_t times_length, uint32_t *prices, size_t prices_length,
-                                        uint32_t end, const uint32_t *setups, size_t setups_length);
+ * close that stand at SUMPHERON_SETUP_NUMBERS times i in `setups`. Every byte of the three arrays is written. Answers 0, 1 or 2, with
+ * zeros. */
+struct sumpheron_answer sumpheron_setup(
+    struct sumpheron_record *book, size_t stocks,
+    uint32_t *times, size_t times_length, uint32_t *prices, size_t prices_length,
+    uint32_t end, const uint32_t *setups, size_t setups_length);
 
 /* Does the stock's earliest moment, if it is not after `time`; otherwise answers 14. Before each message, call it until it does not
  * answer 0. */
-struct sumpheron_notice sumpheron_settle(struct sumpheron_record *book, size_t stocks, uint32_t *times, size_t times_length, uint32_t *prices, size_t prices_length,
-                                         uint32_t stock, uint32_t time);
+struct sumpheron_notice sumpheron_settle(
+    struct sumpheron_record *book, size_t stocks,
+    uint32_t *times, size_t times_length, uint32_t *prices, size_t prices_length,
+    uint32_t stock, uint32_t time);
 
 /* What the stock is; nothing changes. */
-struct sumpheron_answer sumpheron_read(const struct sumpheron_record *book, size_t stocks, const uint32_t *times, size_t times_length, const uint32_t *prices, size_t prices_length,
-                                       uint32_t stock);
+struct sumpheron_answer sumpheron_read(
+    const struct sumpheron_record *book, size_t stocks,
+    const uint32_t *times, size_t times_length, const uint32_t *prices, size_t prices_length,
+    uint32_t stock);
 
 /* ---------------------------------------------------------------- messages */
 
 /* T: an eligible trade. */
-struct sumpheron_answer sumpheron_trade(struct sumpheron_record *book, size_t stocks, uint32_t *times, size_t times_length, uint32_t *prices, size_t prices_length,
-                                        uint32_t stock, uint32_t time, uint32_t price);
+struct sumpheron_answer sumpheron_trade(
+    struct sumpheron_record *book, size_t stocks,
+    uint32_t *times, size_t times_length, uint32_t *prices, size_t prices_length,
+    uint32_t stock, uint32_t time, uint32_t price);
 
 /* Q: a participant's bid and offer; a price of 0 is no bid, or no offer. */
-struct sumpheron_answer sumpheron_quote(struct sumpheron_record *book, size_t stocks, uint32_t *times, size_t times_length, uint32_t *prices, size_t prices_length,
-                                        uint32_t stock, uint32_t time, uint32_t participant, uint32_t bid, uint32_t offer);
+struct sumpheron_answer sumpheron_quote(
+    struct sumpheron_record *book, size_t stocks,
+    uint32_t *times, size_t times_length, uint32_t *prices, size_t prices_length,
+    uint32_t stock, uint32_t time, uint32_t participant, uint32_t bid, uint32_t offer);
 
 /* O: the primary's opening price, before 300,000. */
-struct sumpheron_answer sumpheron_opening(struct sumpheron_record *book, size_t stocks, uint32_t *times, size_t times_length, uint32_t *prices, size_t prices_length,
-                                          uint32_t stock, uint32_t time, uint32_t participant, uint32_t price);
+struct sumpheron_answer sumpheron_opening(
+    struct sumpheron_record *book, size_t stocks,
+    uint32_t *times, size_t times_length, uint32_t *prices, size_t prices_length,
+    uint32_t stock, uint32_t time, uint32_t participant, uint32_t price);
 
-/* P: the primary declares a pause, on a straddle. */
-struct sumpheron_answer sumpheron_pause(struct sumpheron_record *book, size_t stocks, uint32_t *times, size_t times_length, uint32_t *prices, size_t prices_length,
-                                        uint32_t stock, uint32_t time, uint32_t participant);
+/* P: the primary declares a pause, while a side has flag 2 (non-executable). */
+struct sumpheron_answer sumpheron_pause(
+    struct sumpheron_record *book, size_t stocks,
+    uint32_t *times, size_t times_length, uint32_t *prices, size_t prices_length,
+    uint32_t stock, uint32_t time, uint32_t participant);
 
 /* R: the primary reopens a paused stock at a price. */
-struct sumpheron_answer sumpheron_reopening(struct sumpheron_record *book, size_t stocks, uint32_t *times, size_t times_length, uint32_t *prices, size_t prices_length,
-                                            uint32_t stock, uint32_t time, uint32_t participant, uint32_t price);
+struct sumpheron_answer sumpheron_reopening(
+    struct sumpheron_record *book, size_t stocks,
+    uint32_t *times, size_t times_length, uint32_t *prices, size_t prices_length,
+    uint32_t stock, uint32_t time, uint32_t participant, uint32_t price);
 
 /* X: the primary's closing, after a late pause. */
-struct sumpheron_answer sumpheron_closing(struct sumpheron_record *book, size_t stocks, uint32_t *times, size_t times_length, uint32_t *prices, size_t prices_length,
-                                          uint32_t stock, uint32_t time, uint32_t participant, uint32_t price);
+struct sumpheron_answer sumpheron_closing(
+    struct sumpheron_record *book, size_t stocks,
+    uint32_t *times, size_t times_length, uint32_t *prices, size_t prices_length,
+    uint32_t stock, uint32_t time, uint32_t participant, uint32_t price);
 
 #ifdef __cplusplus
 }

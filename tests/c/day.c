@@ -17,13 +17,12 @@ struct line {
     uint32_t numbers[MOST_NUMBERS];
 };
 
-static struct sumpheron_record book[SUMPHERON_STOCKS];
-static uint32_t times[SUMPHERON_STOCKS * SUMPHERON_PLACES];
-static uint32_t prices[SUMPHERON_STOCKS * SUMPHERON_PLACES];
+static struct sumpheron_record book[SUMPHERON_MOST_STOCKS];
+static uint32_t times[SUMPHERON_MOST_STOCKS * SUMPHERON_PLACES];
+static uint32_t prices[SUMPHERON_MOST_STOCKS * SUMPHERON_PLACES];
 static size_t stocks;
 
-/* The book as every call takes it. */
-#define BOOK book, stocks, times, stocks * SUMPHERON_PLACES, prices, stocks * SUMPHERON_PLACES
+#define BOOK SUMPHERON_BOOK(book, stocks, times, prices)
 
 /* The number of the last line that was read. */
 static unsigned long number;
@@ -102,18 +101,18 @@ static struct sumpheron_answer tell(char letter, const uint32_t *n)
 /* Sets the book up by the first lines of a day, and says how many messages follow. */
 static uint32_t set_up(void)
 {
-    static uint32_t setups[SUMPHERON_STOCKS * SUMPHERON_SETUP];
+    static uint32_t setups[SUMPHERON_MOST_STOCKS * SUMPHERON_SETUP_NUMBERS];
     struct line contents = next_line();
-    if (contents.letter != 'C' || contents.count != 3 || contents.numbers[0] > SUMPHERON_STOCKS)
+    if (contents.letter != 'C' || contents.count != 3 || contents.numbers[0] > SUMPHERON_MOST_STOCKS)
         fail();
     stocks = contents.numbers[0];
     for (size_t stock = 0; stock < stocks; stock++) {
         struct line line = next_line();
-        if (line.letter != 'S' || line.count != SUMPHERON_SETUP)
+        if (line.letter != 'S' || line.count != SUMPHERON_SETUP_NUMBERS)
             fail();
-        memcpy(setups + stock * SUMPHERON_SETUP, line.numbers, SUMPHERON_SETUP * sizeof *setups);
+        memcpy(setups + stock * SUMPHERON_SETUP_NUMBERS, line.numbers, SUMPHERON_SETUP_NUMBERS * sizeof *setups);
     }
-    if (sumpheron_setup(BOOK, contents.numbers[2], setups, stocks * SUMPHERON_SETUP).number != SUMPHERON_DONE)
+    if (sumpheron_setup(BOOK, contents.numbers[2], setups, stocks * SUMPHERON_SETUP_NUMBERS).number != SUMPHERON_DONE)
         fail();
     return contents.numbers[1];
 }

@@ -88,7 +88,7 @@ static struct memory {
 /* Where an answer is written. */
 static uint64_t room[ROOM / sizeof(uint64_t)];
 
-#define BOOK (struct sumpheron_record *)(memory.records + GUARD), STOCKS, memory.times + GUARD, PLACES, memory.prices + GUARD, PLACES
+#define BOOK SUMPHERON_BOOK((struct sumpheron_record *)(memory.records + GUARD), STOCKS, memory.times + GUARD, memory.prices + GUARD)
 
 /* ---------------------------------------------------------------- checks */
 
@@ -238,7 +238,7 @@ static void check_sizes(void)
 
 static void set_up(void)
 {
-    const uint32_t setups[STOCKS * SUMPHERON_SETUP] = {1, 1, 6, 31000, 2, 3, 9, 115000};
+    const uint32_t setups[STOCKS * SUMPHERON_SETUP_NUMBERS] = {1, 1, 6, 31000, 2, 3, 9, 115000};
     expect_done("setup", sumpheron_setup(BOOK, 3700000, setups, LENGTH(setups)));
     check_guards("records after setup", memory.records, NUMBERS);
     check_guards("times after setup", memory.times, PLACES);

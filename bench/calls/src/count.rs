@@ -38,7 +38,8 @@ fn executed(case: &str, side: &str, times: &str) -> Option<u64> {
         .arg(std::env::current_exe().expect("the program has a path"))
         .args(["count", case, side, times])
         .output()
-        .ok()?;
+        .ok()
+        .filter(|output| output.status.success())?;
     let said = String::from_utf8_lossy(&output.stderr);
     let line = said.lines().find(|line| line.contains("refs:"))?;
     let digits = line.rsplit(' ').next()?.replace(',', "");

@@ -88,12 +88,14 @@ fn tell(book: &mut Book, letter: &str, numbers: &[u32]) -> Option<Answer> {
 
 /// The book, once every moment of a stock that is due by a time is done.
 fn settled(book: &mut Book, stock: u32, time: u32) -> &mut Book {
-    book.settle_all(stock, time, |notice| {
+    let settled = book.settle_all(stock, time, |notice| {
         if let Some(moment) = notice.moment {
-            let letter = moment.mark.letter().to_string();
+            let letter = moment.mark.to_string();
             print(stock, moment.time, &letter, &notice.answer);
         }
     });
+    // What refuses the settling refuses the message too, whose answer is printed.
+    settled.ok();
     book
 }
 

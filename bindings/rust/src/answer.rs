@@ -21,7 +21,6 @@ pub struct Answer {
     pub bid: Option<Quote>,
     /// The best offer, if there is one.
     pub offer: Option<Quote>,
-    raw: raw::Answer,
 }
 
 /// The prices between which a stock may trade.
@@ -51,7 +50,6 @@ pub struct Notice {
     pub answer: Answer,
     /// The moment that was done: there is one exactly if the number is `Done`.
     pub moment: Option<Moment>,
-    raw: raw::Notice,
 }
 
 /// A moment that was done.
@@ -73,9 +71,19 @@ impl Answer {
         }
     }
 
-    /// The answer as the library gave it.
-    pub fn raw(&self) -> &raw::Answer {
-        &self.raw
+    /// The answer as the library gives it.
+    pub fn raw(&self) -> raw::Answer {
+        raw::Answer {
+            number: self.number.raw(),
+            state: self.state.raw(),
+            reference: self.reference.unwrap_or(0),
+            lower: self.bands.map_or(0, |bands| bands.lower),
+            upper: self.bands.map_or(0, |bands| bands.upper),
+            bid: self.bid.map_or(0, |bid| bid.price),
+            bid_flag: self.bid.map_or(0, |bid| bid.flag.raw()),
+            offer: self.offer.map_or(0, |offer| offer.price),
+            offer_flag: self.offer.map_or(0, |offer| offer.flag.raw()),
+        }
     }
 }
 
@@ -94,9 +102,15 @@ impl Quote {
 }
 
 impl Notice {
-    /// The notice as the library gave it.
-    pub fn raw(&self) -> &raw::Notice {
-        &self.raw
+    /// The notice as the library gives it.
+    pub fn raw(&self) -> raw::Notice {
+        raw::Notice {
+            answer: self.answer.raw(),
+            moment: raw::Moment {
+                mark: self.moment.map_or(0, |moment| moment.mark.raw()),
+                time: self.moment.map_or(0, |moment| moment.time),
+            },
+        }
     }
 }
 
@@ -111,7 +125,6 @@ impl From<raw::Answer> for Answer {
             bands: (upper != 0).then_some(Bands { lower, upper }),
             bid: Quote::of(raw.bid, raw.bid_flag),
             offer: Quote::of(raw.offer, raw.offer_flag),
-            raw,
         }
     }
 }
@@ -123,7 +136,6 @@ impl From<raw::Notice> for Notice {
         Notice {
             answer: raw.answer.into(),
             moment: (mark != Mark::NoMoment).then_some(Moment { mark, time }),
-            raw,
         }
     }
 }

@@ -1,7 +1,7 @@
 //! The book of stocks, and the calls on it.
 
-use crate::{raw, Answer, Notice, Number, PLACES};
-use std::fmt;
+use crate::{raw, Answer, Notice, Number, MOST_STOCKS, PLACES, SETUP_NUMBERS};
+use std::{fmt, ops::Range};
 
 /// How a stock starts the day.
 #[non_exhaustive]
@@ -29,7 +29,7 @@ impl Setup {
     }
 
     /// The numbers in the order in which the library takes them.
-    fn numbers(&self) -> [u32; 4] {
+    fn numbers(&self) -> [u32; SETUP_NUMBERS] {
         [self.tier, self.leverage, self.primary, self.close]
     }
 }
@@ -68,6 +68,9 @@ impl Book {
     /// It is refused as [`Rubbish`](Number::Rubbish) with no setup or more than 64, and as [`BadSetup`](Number::BadSetup) where a
     /// number is out of range.
     pub fn new(end: u32, setups: &[Setup]) -> Result<Book, Number> {
+        if !(1..=MOST_STOCKS).contains(&setups.len()) {
+            return Err(Number::Rubbish);
+        }
         let places = setups.len() * PLACES;
         let mut book = Book::from_parts(
             vec![raw::Record::default(); setups.len()],
@@ -107,6 +110,32 @@ impl Book {
         (self.records, self.times, self.prices)
     }
 
+    /// Puts a stock of another book, its record and its places, in place of a stock of this one, which may be of another size.
+    /// What is copied is not judged.
+    ///
+    /// It is refused as [`Rubbish`](Number::Rubbish) where one of the books has a wrong shape, and as
+    /// [`NoStock`](Number::NoStock) where one has no stock of that number.
+    pub fn copy_stock(&mut self, stock: u32, from: &Book, other: u32) -> Result<(), Number> {
+        let (to, of) = (self.places(stock)?, from.places(other)?);
+        self.records[stock as usize] = from.records[other as usize];
+        self.times[to.clone()].copy_from_slice(&from.times[of.clone()]);
+        self.prices[to].copy_from_slice(&from.prices[of]);
+        Ok(())
+    }
+
+    /// Where a stock's places stand, if the shape is right and the stock is there.
+    fn places(&self, stock: u32) -> Result<Range<usize>, Number> {
+        let (stocks, stock) = (self.stocks(), stock as usize);
+        let right = |length| stocks <= MOST_STOCKS && length == stocks * PLACES;
+        if stocks == 0 || !right(self.times.len()) || !right(self.prices.len()) {
+            return Err(Number::Rubbish);
+        }
+        if stock >= stocks {
+            return Err(Number::NoStock);
+        }
+        Ok(stock * PLACES..(stock + 1) * PLACES)
+    }
+
     /// How many stocks there are; they are numbered from 0.
     pub fn stocks(&self) -> usize {
         self.records.len()
@@ -128,33 +157,43 @@ impl Book {
     }
 
     /// What a stock is.
+    #[must_use]
     pub fn read(&self, stock: u32) -> Answer {
         lend!(self, as_ptr, sumpheron_read, stock)
     }
 
     /// Does a stock's earliest moment, if it is not after `time`, and is otherwise refused as [`NothingDue`](Number::NothingDue).
+    #[must_use]
     pub fn settle(&mut self, stock: u32, time: u32) -> Notice {
         lend!(self, as_mut_ptr, sumpheron_settle, stock, time)
     }
 
-    /// Does all of a stock's moments that are not after `time`, giving each notice to `each`, and answers as the last settling
-    /// did: [`NothingDue`](Number::NothingDue), or what refused it.
-    pub fn settle_all(&mut self, stock: u32, time: u32, mut each: impl FnMut(Notice)) -> Answer {
+    /// Does all of a stock's moments that are not after `time`, giving each notice to `each`, and answers what the stock then
+    /// is, with the number [`NothingDue`](Number::NothingDue); otherwise with the number that refused it.
+    pub fn settle_all(
+        &mut self,
+        stock: u32,
+        time: u32,
+        mut each: impl FnMut(Notice),
+    ) -> Result<Answer, Number> {
         loop {
             let notice = self.settle(stock, time);
-            if notice.answer.number != Number::Done {
-                return notice.answer;
+            match notice.answer.number {
+                Number::Done => each(notice),
+                Number::NothingDue => return Ok(notice.answer),
+                refusal => return Err(refusal),
             }
-            each(notice);
         }
     }
 
     /// T: an eligible trade.
+    #[must_use]
     pub fn trade(&mut self, stock: u32, time: u32, price: u32) -> Answer {
         lend!(self, as_mut_ptr, sumpheron_trade, stock, time, price)
     }
 
     /// Q: a participant's bid and offer; a price of 0 is no bid, or no offer.
+    #[must_use]
     pub fn quote(
         &mut self,
         stock: u32,
@@ -176,6 +215,7 @@ impl Book {
     }
 
     /// O: the primary's opening price, before 300,000.
+    #[must_use]
     pub fn opening(&mut self, stock: u32, time: u32, participant: u32, price: u32) -> Answer {
         lend!(
             self,
@@ -188,12 +228,14 @@ impl Book {
         )
     }
 
-    /// P: the primary declares a pause, on a straddle.
+    /// P: the primary declares a pause, while a side has the flag [`NonExecutable`](crate::Flag::NonExecutable).
+    #[must_use]
     pub fn pause(&mut self, stock: u32, time: u32, participant: u32) -> Answer {
         lend!(self, as_mut_ptr, sumpheron_pause, stock, time, participant)
     }
 
     /// R: the primary reopens a paused stock at a price.
+    #[must_use]
     pub fn reopening(&mut self, stock: u32, time: u32, participant: u32, price: u32) -> Answer {
         lend!(
             self,
@@ -207,6 +249,7 @@ impl Book {
     }
 
     /// X: the primary's closing, after a late pause.
+    #[must_use]
     pub fn closing(&mut self, stock: u32, time: u32, participant: u32, price: u32) -> Answer {
         lend!(
             self,

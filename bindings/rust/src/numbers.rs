@@ -2,14 +2,17 @@
 
 use std::{error, fmt};
 
-/// Declares an enum that has a case for every number of 32 bits; the text of a case is both its documentation and its display.
+/// Declares an enum that has a case for every number of 32 bits; each named case has its number and what it is displayed as.
 macro_rules! numbers {
-    ($(#[$about:meta])* $name:ident { $($case:ident = $number:literal, $text:literal;)+ }) => {
+    (
+        $(#[$about:meta])*
+        $name:ident { $($(#[$doc:meta])* $case:ident = $number:literal, $word:literal;)+ }
+    ) => {
         $(#[$about])*
         #[non_exhaustive]
         #[derive(Clone, Copy, Debug, PartialEq, Eq, Hash)]
         pub enum $name {
-            $(#[doc = $text] $case,)+
+            $($(#[$doc])* $case,)+
             /// A number that this version has no name for. A later version may have one, so do not go by the number.
             Unknown(u32),
         }
@@ -42,8 +45,8 @@ macro_rules! numbers {
         impl fmt::Display for $name {
             fn fmt(&self, out: &mut fmt::Formatter<'_>) -> fmt::Result {
                 match self {
-                    $(Self::$case => out.write_str($text),)+
-                    Self::Unknown(number) => write!(out, "the number {number}"),
+                    $(Self::$case => out.pad($word),)+
+                    Self::Unknown(number) => fmt::Display::fmt(number, out),
                 }
             }
         }
@@ -54,21 +57,36 @@ numbers! {
     /// What a call answers. Every number but `Done` leaves the book as it stood. Of several that apply the first in this order
     /// is given, but that `NoStock` comes before the rubbish of a stock.
     Number {
+        /// The call was done.
         Done = 0, "done";
-        Rubbish = 1, "0 or over 64 stocks, an array of the wrong length, or a record that is rubbish";
-        BadSetup = 2, "setup: the session's end or a stock's setup is out of range";
-        NoStock = 3, "the stock's number is too large";
+        /// 0 or over 64 stocks, an array of the wrong length, or a record that is rubbish.
+        Rubbish = 1, "the book has a wrong shape, or the stock is rubbish";
+        /// Setup: the session's end or a stock's setup is out of range.
+        BadSetup = 2, "the session's end or a setup is out of range";
+        /// The stock's number is too large.
+        NoStock = 3, "there is no such stock";
+        /// A price, a participant or a time is out of range.
         OutOfRange = 4, "a price, a participant or a time is out of range";
-        TooEarly = 5, "a message's time is before the stock's clock";
-        Unsettled = 6, "a moment not after the message's time is not settled";
-        NotPrimary = 8, "the participant is not the stock's primary listing exchange";
-        ClosedStock = 7, "the stock is Closed";
-        WrongState = 9, "the state takes no such message; also an opening at 300,000 or later, and a pause without a straddle";
+        /// A message's time is before the stock's clock.
+        BeforeClock = 5, "the time is before the stock's clock";
+        /// A moment not after the message's time is not settled: settle first.
+        Unsettled = 6, "a moment is not settled";
+        /// The participant is not the stock's primary listing exchange.
+        NotPrimary = 8, "the participant is not the primary";
+        /// The stock is `Closed`.
+        ClosedStock = 7, "the stock is closed";
+        /// The state takes no such message; also an opening at 300,000 or later, and a pause while no side is `NonExecutable`.
+        WrongState = 9, "the state takes no such message";
+        /// A trade in a pause.
         InPause = 11, "a trade in a pause";
-        NotYet = 10, "a reopening before the pause is 300,000 old, a closing before the session's end";
-        OutsideBands = 12, "a trade outside the bands in force";
-        NoRoom = 13, "a trade while 512 are held";
-        NothingDue = 14, "settling: nothing is due";
+        /// A reopening before the pause is 300,000 old, a closing before the session's end.
+        NotYet = 10, "it is too early to reopen or to close";
+        /// A trade outside the bands in force.
+        OutsideBands = 12, "a trade outside the bands";
+        /// A trade while 512 are held.
+        NoRoom = 13, "there is no room for a trade";
+        /// Settling: nothing is due.
+        NothingDue = 14, "nothing is due";
     }
 }
 
@@ -77,37 +95,56 @@ impl error::Error for Number {}
 numbers! {
     /// The state of a stock.
     State {
-        Waiting = 0, "no reference price yet: trades at any price";
-        Trading = 1, "trades between the bands, both included";
-        Limit = 2, "the same, while a quote stands at a band: a pause follows 15,000 after the entry if it stays";
-        Paused = 3, "no trades until the primary reopens the stock, or 600,000 have run";
-        LatePause = 4, "a pause begun at the session's end - 600,000 or later: no more trades";
-        Closed = 5, "the day is over for this stock";
+        /// No reference price yet: trades at any price.
+        Waiting = 0, "Waiting";
+        /// Trades between the bands, both included.
+        Trading = 1, "Trading";
+        /// The same, while a quote stands at a band: a pause follows 15,000 after the entry if it stays.
+        Limit = 2, "Limit";
+        /// No trades until the primary reopens the stock, or 600,000 have run.
+        Paused = 3, "Paused";
+        /// A pause begun at the session's end - 600,000 or later: no more trades.
+        LatePause = 4, "Late pause";
+        /// The day is over for this stock.
+        Closed = 5, "Closed";
     }
 }
 
 numbers! {
     /// What is to be said of a best bid or a best offer.
     Flag {
-        Absent = 0, "there is none; never beside a price";
-        Plain = 1, "plain: within the bands, or while none are in force";
-        Beyond = 2, "not executable: a bid below the lower band, an offer above the upper band";
-        Limit = 3, "at the limit: a bid at the upper band, an offer at the lower band";
+        /// There is none; never beside a price.
+        Absent = 0, "absent";
+        /// None of the others, or no bands are in force.
+        Plain = 1, "plain";
+        /// A bid below the lower band, an offer above the upper band.
+        NonExecutable = 2, "non-executable";
+        /// A bid at the upper band, an offer at the lower band.
+        Limit = 3, "limit";
     }
 }
 
 numbers! {
     /// Which moment it is, by the letter that the rules give it.
     Mark {
-        NoMoment = 0, "no moment was done; never beside a time";
-        Z = 0x7a, "z: the session's end; the stock closes";
-        W = 0x77, "w: at 900,000 and at the session's end - 1,500,000; the bands' width changes";
-        X = 0x78, "x: a limit state has lasted 15,000; a pause starts";
-        P = 0x70, "p: a pause has lasted 600,000; the stock trades again";
-        C = 0x63, "c: the session's end + 300,000; a late pause ends and the stock closes";
-        V = 0x76, "v: trades are 300,000 old and leave the window";
-        F = 0x66, "f: 300,000; the mean of the trades so far is the first reference";
-        H = 0x68, "h: a reference is 30,000 old and may be replaced from now on";
+        /// No moment was done; never beside a time.
+        NoMoment = 0, "none";
+        /// The session's end; the stock closes.
+        Z = 0x7a, "z";
+        /// At 900,000 and at the session's end - 1,500,000; the bands' width changes.
+        W = 0x77, "w";
+        /// A limit state has lasted 15,000; a pause starts.
+        X = 0x78, "x";
+        /// A pause has lasted 600,000; the stock trades again.
+        P = 0x70, "p";
+        /// The session's end + 300,000; a late pause ends and the stock closes.
+        C = 0x63, "c";
+        /// Trades are 300,000 old and leave the window.
+        V = 0x76, "v";
+        /// At 300,000; the mean of the trades so far is the first reference.
+        F = 0x66, "f";
+        /// A reference is 30,000 old and may be replaced from now on.
+        H = 0x68, "h";
     }
 }
 

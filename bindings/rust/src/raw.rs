@@ -95,7 +95,8 @@ pub struct Notice {
 }
 
 extern "C" {
-    /// Starts the whole book: stock i has the tier, leverage, primary and close at 4 times i of `setups`.
+    /// Starts the whole book: stock i has the tier, leverage, primary and close at [`SETUP_NUMBERS`](crate::SETUP_NUMBERS) times
+    /// i of `setups`.
     pub fn sumpheron_setup(
         book: *mut Record,
         stocks: usize,
@@ -173,7 +174,7 @@ extern "C" {
         price: u32,
     ) -> Answer;
 
-    /// P: the primary declares a pause.
+    /// P: the primary declares a pause, while a side has flag 2 (non-executable).
     pub fn sumpheron_pause(
         book: *mut Record,
         stocks: usize,

@@ -42,7 +42,7 @@ fn answers_name_what_the_library_says() {
     let (bid, offer) = (limit.bid.unwrap(), limit.offer.unwrap());
     assert_eq!(limit.state, State::Limit);
     assert_eq!((bid.price, bid.flag), (138_000, Flag::Limit));
-    assert_eq!((offer.price, offer.flag), (138_001, Flag::Beyond));
+    assert_eq!((offer.price, offer.flag), (138_001, Flag::NonExecutable));
     assert_eq!((limit.raw().bid, limit.raw().bid_flag), (138_000, 3));
 }
 
@@ -67,6 +67,7 @@ fn settling_gives_each_moment_its_own_time() {
     let last = book.settle_all(0, 1_000_000, |notice| {
         marks.push(notice.moment.unwrap().mark.letter())
     });
+    let last = last.unwrap();
     assert_eq!(
         (last.number, last.state),
         (Number::NothingDue, State::Paused)
@@ -84,7 +85,7 @@ fn refusals_change_nothing() {
     let refusals = [
         (book.trade(2, 3_000, 115_000), Number::NoStock),
         (book.trade(0, 3_000, 0), Number::OutOfRange),
-        (book.trade(0, 1_999, 115_000), Number::TooEarly),
+        (book.trade(0, 1_999, 115_000), Number::BeforeClock),
         (book.trade(0, 31_000, 115_000), Number::Unsettled),
         (book.pause(0, 3_000, 5), Number::NotPrimary),
         (book.opening(0, 3_000, 2, 115_000), Number::WrongState),
@@ -199,6 +200,28 @@ fn sixty_four_stocks_are_apart() {
 }
 
 #[test]
+fn a_stock_is_copied_from_another_book() {
+    let mut book = trading();
+    let mut rebuilt = Book::new(END, &[SETUP]).unwrap();
+    rebuilt.opening(0, 5_000, 2, 120_000).done().unwrap();
+    let stands = book.read(0);
+    assert_eq!(book.copy_stock(1, &rebuilt, 0), Ok(()));
+    assert_eq!((book.read(0), book.read(1)), (stands, rebuilt.read(0)));
+    assert_eq!(book.times()[PLACES..], rebuilt.times()[..]);
+    assert_eq!(book.prices()[PLACES..], rebuilt.prices()[..]);
+
+    let before = book.clone();
+    assert_eq!(book.copy_stock(2, &rebuilt, 0), Err(Number::NoStock));
+    assert_eq!(book.copy_stock(0, &rebuilt, 1), Err(Number::NoStock));
+    assert_eq!(book.copy_stock(u32::MAX, &rebuilt, 0), Err(Number::NoStock));
+    let (records, times, mut prices) = rebuilt.into_parts();
+    prices.pop();
+    let short = Book::from_parts(records, times, prices);
+    assert_eq!(book.copy_stock(0, &short, 0), Err(Number::Rubbish));
+    assert_eq!(book, before);
+}
+
+#[test]
 fn rubbish_is_answered() {
     let (mut records, times, prices) = trading().into_parts();
     records[0].state = 6;
@@ -206,9 +229,8 @@ fn rubbish_is_answered() {
     let before = book.clone();
     assert_eq!(book.trade(0, 3_000, 115_000).number, Number::Rubbish);
     assert_eq!(
-        book.settle_all(0, 3_000, |_| panic!("a moment of rubbish"))
-            .number,
-        Number::Rubbish
+        book.settle_all(0, 3_000, |_| panic!("a moment of rubbish")),
+        Err(Number::Rubbish)
     );
     assert_eq!(book.read(1).number, Number::Done);
     assert_eq!(book, before);
@@ -228,13 +250,31 @@ fn every_number_has_a_name() {
         assert_eq!(Mark::from(number).raw(), number);
     }
     assert_eq!(State::from(6), State::Unknown(6));
-    assert_eq!(Number::from(15).to_string(), "the number 15");
-    assert_eq!(
-        Number::from(3).to_string(),
-        "the stock's number is too large"
-    );
     assert_eq!(Mark::from(u32::MAX).letter(), '?');
-    assert_eq!(u32::from(Flag::Beyond), 2);
+    assert_eq!(u32::from(Flag::NonExecutable), 2);
+}
+
+#[test]
+fn every_name_is_displayed() {
+    let words = |from: fn(u32) -> String, numbers: &[u32]| -> Vec<String> {
+        numbers.iter().map(|&number| from(number)).collect()
+    };
+    let states = words(|n| State::from(n).to_string(), &[0, 1, 2, 3, 4, 5, 6]);
+    assert_eq!(
+        states.join(", "),
+        "Waiting, Trading, Limit, Paused, Late pause, Closed, 6"
+    );
+    let flags = words(|n| Flag::from(n).to_string(), &[0, 1, 2, 3, 4]);
+    assert_eq!(flags.join(", "), "absent, plain, non-executable, limit, 4");
+    for letter in "zwxpcvfh".chars() {
+        assert_eq!(Mark::from(letter as u32).to_string(), letter.to_string());
+    }
+    assert_eq!(Mark::from(0).to_string(), "none");
+    assert_eq!(Number::from(3).to_string(), "there is no such stock");
+    assert_eq!(
+        format!("{:>5}|{:<7}|", Number::from(15), Flag::Plain),
+        "   15|plain  |"
+    );
 }
 
 #[test]
@@ -251,7 +291,7 @@ fn an_answer_of_a_later_version_is_read() {
     assert_eq!(notice.answer.state, State::Unknown(6));
     assert_eq!(notice.answer.offer.unwrap().flag, Flag::Unknown(9));
     assert_eq!(notice.moment.unwrap().mark, Mark::Unknown(u32::MAX));
-    assert_eq!(notice.raw(), &raw);
+    assert_eq!(notice.raw(), raw);
 }
 
 #[test]
