@@ -92,11 +92,8 @@ def array_typed(value, known):
     return f"(array-lawful 𝓤 H A W T.the-row (LL.lawful T.the-type T′.the-laws 𝓤 H A W) 8 .typed {value} _ {known} .0)"
 
 
-def entered(w, ps, locals_):
-    w.front("owns")
-    for name in ("array", "n"):
-        w.fsplit(name, "owns")
-        w.drop()
+def rows_apart(w, ps):
+    """the parameters' rows in front are apart, and of them the slices' are kept"""
     for k in ps.all:
         w.fsplit(f"own{k}", "owns")
         if k in ps.slices:
@@ -104,6 +101,14 @@ def entered(w, ps, locals_):
         else:
             w.drop()
     w.drop()
+
+
+def entered(w, ps, locals_):
+    w.front("owns")
+    for name in ("array", "n"):
+        w.fsplit(name, "owns")
+        w.drop()
+    rows_apart(w, ps)
     w.add(f"enter ! C Λ code.function (valA h ∷ vint w64 n ∷ {' ∷ '.join(map(ps.value, ps.all))} ∷ []) _ $")
     w.alloc(locals_)
     w.passes(1, array_typed("h", "was"))

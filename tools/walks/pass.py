@@ -14,7 +14,7 @@ steps must follow.
 """
 from ctx import Walk, sub
 from lent import HERE, MESSAGE, call, enter, filled, heard, number_typed, seen, slice_typed, struct_typed, used
-from part import at, nest, product
+from part import at, nest, product, rows_apart
 
 PROOFS = HERE.parents[1] / "crates" / "engine" / "proofs"
 
@@ -84,13 +84,7 @@ def joined(items, context):
 def entered(ps, locals_):
     w = Walk(["toks", "owns"])
     w.front("owns")
-    for k in ps.all:
-        w.fsplit(f"own{k}", "owns")
-        if k in ps.slices:
-            w.front("owns")
-        else:
-            w.drop()
-    w.drop()
+    rows_apart(w, ps)
     enter(w, [ps.value(k) for k in ps.all], locals_, [ps.typed(k) for k in ps.all])
     return w
 

@@ -8,7 +8,6 @@ use borrow.Author.Tests.{ltb-true, ltb-false, lt-ltb, le-ltb}
 use lib.Dec.{ltb}
 use lib.ListN.{length, getD, drop}
 use Rattle.forms.specs.Choice.{if_then_else_}
-use Rattle.forms.proofs.Choice.{if-true, if-false}
 use Rattle.forms.proofs.Loops.{fold-turn, fold-end}
 use Rattle.rules.specs.Numbers.{orNotSide}
 use Rattle.judge.proofs.range.or_not_sides.Statement.{statement}
