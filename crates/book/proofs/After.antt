@@ -1,97 +1,35 @@
 -- What follows an accepted setup: number 1 is never given, and unused places are 0.
 -- Assumes nothing.
-use Prim.Native.Nat.{ℕ, zero, suc, _*_, _≤_, _<_}
-use mathlib.Core.Bool.{Bool, true, false, not, true≢false}
+use Prim.Native.Nat.{ℕ, _*_, _≤_, _<_}
+use mathlib.Core.Bool.{Bool, true, false}
 use mathlib.Core.List.{List, [], _∷_, _++_, map}
 use mathlib.Core.Path.{_≡_, refl, sym, ap, _∙_, subst}
 use native.Mathlib.Omega.{arith}
 use borrow.Author.Tests.{ltb-true, eq-eqb, ne-eqb}
-use lib.Dec.{ltb, eqb}
+use lib.Dec.{ltb}
 use lib.ListN.{length, getD, length-map}
-use Rattle.forms.specs.Choice.{if_then_else_, allOf}
-use Rattle.forms.specs.Checks.{Check, first}
-use Rattle.forms.specs.Checks.Check.{_when_}
-use Rattle.forms.specs.Tables.{entry, every}
-use Rattle.forms.proofs.Choice.{if-true, if-false, if-arms, all-head, all-tail}
-use Rattle.rules.specs.Stock.{Whole, stateOf}
-use Rattle.rules.specs.Messages.{table, kind, taken}
+use Rattle.forms.specs.Choice.{if_then_else_}
+use Rattle.forms.specs.Checks.{first}
+use Rattle.forms.proofs.Choice.{if-true, if-false}
+use Rattle.rules.specs.Stock.{Whole}
 use Rattle.rules.specs.Machine.{On, Call, Calls, tell, settle, stock, stepIn, run}
-use Rattle.rules.specs.Book.{machine, blank, book, Accepted, now, bookTells, bookSettles}
-use Rattle.rules.specs.Numbers.{answer, callChecks, rubbish, ownChecks, messageChecks, checks, tells, timeChecks, settleChecks, settles, fresh, tellAnswer, settleAnswer}
+use Rattle.rules.specs.Book.{machine, blank, book, Accepted, now, bookTells, bookSettles, bookReads}
+use Rattle.rules.specs.Numbers.{answer, callChecks, tells, reads, fresh, tellAnswer, settleAnswer, readAnswer}
+use Rattle.rules.specs.Words.{Rubbish}
 use Rattle.rules.specs.declared.Message.{Message}
-use Rattle.rules.specs.declared.Message.the-variants.{Trade as T, Quote as Q, Opening as O, Pause as P, Reopening as R, Closing as X}
 use Rattle.rules.specs.declared.Setup.{Setup}
-use Rattle.rules.specs.declared.Stock.{Stock}
 use Rattle.rules.proofs.Demands.{demands}
+use Rattle.rules.proofs.Numbers.{told-1, settled-1, read-1}
 use Rattle.stock.proofs.Laws.{answer-number, notice-number}
 use Rattle.book.specs.Lent.{bytesOf}
 use Rattle.book.specs.Layout.{stockBytes}
 use Rattle.book.specs.Setup.{setupsOf}
-use Rattle.book.specs.Demands.{ours, Made, refused-setup, told, settled, was-read, calls, bookReads, Answered, Never1, UnusedAre0, AfterSetup}
+use Rattle.book.specs.Demands.{ours, Made, refused-setup, told, settled, was-read, calls, Answered, Never1, UnusedAre0, AfterSetup}
 use Rattle.book.proofs.Layouts.{Fits, behind, bytes-of}
 use Rattle.book.proofs.Chains.{run-length, every-at, all-fit, started, demand2}
 use Rattle.book.proofs.Follows.{first-number}
 
--- ------------------------------------------------------------------ no further check gives 1
-
-abbrev NotOne : List Check → Type 0
-NotOne [] = Unit {0}
-NotOne (n when b ∷ cs) = (n ≡ 1 → ⊥) × NotOne cs
-
-not-one : (cs : List Check) → NotOne cs → first cs ≡ 1 → ⊥
-unfolding first
-not-one [] p e = omega (arith, e)
-not-one (n when b ∷ cs) p e = if-arms (λ x. x ≡ 1 → ⊥) b {x = n} {y = first cs} (λ _. p .0) (λ _. not-one cs (p .1)) e
-
--- nor does the table
-row-not-one : (row : List ℕ) → every (λ n. not (eqb n 1)) row ≡ true → (i : ℕ) → getD row i 0 ≡ 1 → ⊥
-unfolding every
-row-not-one [] a i e = omega (arith, e)
-row-not-one (n ∷ row) a zero e = true≢false (sym (all-head _ _ a) ∙ ap not (eq-eqb n 1 e))
-row-not-one (n ∷ row) a (suc i) e = row-not-one row (all-tail _ _ a) i e
-
-taken-not-one : (m : Message) (state : ℕ) → taken (kind m) state ≡ 1 → ⊥
-unfolding taken every allOf if_then_else_
-taken-not-one m state = if-arms (λ x. x ≡ 1 → ⊥) (ltb state 6) {x = entry table (kind m) state} {y = 7} (λ _. by m) (λ _ e. omega (arith, e))
-  where
-    by : (m : Message) → entry table (kind m) state ≡ 1 → ⊥
-    by (T time price) = row-not-one (getD table 0 []) refl state
-    by (Q time participant bid offer) = row-not-one (getD table 1 []) refl state
-    by (O time participant price) = row-not-one (getD table 2 []) refl state
-    by (P time participant) = row-not-one (getD table 3 []) refl state
-    by (R time participant price) = row-not-one (getD table 4 []) refl state
-    by (X time participant price) = row-not-one (getD table 5 []) refl state
-
-own-not-one : (m : Message) (held : ℕ) (s : Stock) → NotOne (ownChecks m held s)
-unfolding ownChecks
-own-not-one (T time price) held s = ((λ e. omega (arith, e)), ((λ e. omega (arith, e)), tt))
-own-not-one (Q time participant bid offer) held s = tt
-own-not-one (O time participant price) held s = ((λ e. omega (arith, e)), tt)
-own-not-one (P time participant) held s = ((λ e. omega (arith, e)), tt)
-own-not-one (R time participant price) held s = ((λ e. omega (arith, e)), tt)
-own-not-one (X time participant price) held s = ((λ e. omega (arith, e)), tt)
-
-tells-not-one : (m : Message) (h : Whole) → rubbish h ≡ false → tells m h ≡ 1 → ⊥
-unfolding tells checks first messageChecks
-tells-not-one m h r e =
-    not-one (messageChecks m (length (h .window)) _ (h .stock)) (
-      (λ e. omega (arith, e)),
-      (
-        (λ e. omega (arith, e)),
-        (
-          (λ e. omega (arith, e)),
-          (
-            (λ e. omega (arith, e)),
-            (taken-not-one m (stateOf (h .stock)), own-not-one m (length (h .window)) (h .stock)),
-          ),
-        ),
-      ),
-    )
-    (simp (r, if-false) at e)
-
-settles-not-one : (time : ℕ) (h : Whole) → rubbish h ≡ false → settles time h ≡ 1 → ⊥
-unfolding settles settleChecks first timeChecks
-settles-not-one time h r e = not-one (timeChecks time _ (h .stock)) ((λ e. omega (arith, e)), ((λ e. omega (arith, e)), tt)) (simp (r, if-false) at e)
+-- ------------------------------------------------------------------ a message's number
 
 tell-number : (m : Message) (h : Whole) → tellAnswer m h .number ≡ tells m h
 unfolding tellAnswer
@@ -108,7 +46,7 @@ module _ (end : ℕ) (us : List Setup) (accepted : Accepted end us) where
   abbrev hs : Calls machine → List Whole
   hs cs = run machine (blank end) (book end us) cs
 
-  clean : (cs : Calls machine) (i : ℕ) → i < length us → rubbish (now end us cs i) ≡ false
+  clean : (cs : Calls machine) (i : ℕ) → i < length us → ¬ Rubbish (now end us cs i)
   clean cs i l =
       let k = demands .by-story end us accepted cs i l in
       rw (k .1) (demands .never-rubbish end _ _ (k .0))
@@ -132,7 +70,7 @@ module _ (end : ℕ) (us : List Setup) (accepted : Accepted end us) where
         go true q e =
             let l = ltb-true i (length (hs cs)) q in
             let n : tellAnswer m (now end us cs i) .number ≡ 1 = simp (first-is, q, if-true, eq-eqb 0 0 refl) at e in
-            tells-not-one m _ (clean cs i (omega (arith, long cs, l))) (sym (tell-number m _) ∙ n)
+            clean cs i (omega (arith, long cs, l)) (told-1 m _ (sym (tell-number m _) ∙ n))
         go false q e = let n : _≡_ {A = ℕ} 3 1 = simp (first-is, q, if-false, ne-eqb 3 0 (λ z. omega (arith, z))) at e in omega (arith, n)
 
     settled-not-one : (time : ℕ) → bookSettles end (hs cs) places places i time .answer .number ≡ 1 → ⊥
@@ -143,21 +81,19 @@ module _ (end : ℕ) (us : List Setup) (accepted : Accepted end us) where
         go true q e =
             let l = ltb-true i (length (hs cs)) q in
             let n : settleAnswer time (now end us cs i) .answer .number ≡ 1 = simp (first-is, q, if-true, eq-eqb 0 0 refl) at e in
-            settles-not-one time _ (clean cs i (omega (arith, long cs, l))) (sym (notice-number time _) ∙ n)
+            clean cs i (omega (arith, long cs, l)) (settled-1 time _ (sym (notice-number time _) ∙ n))
         go false q e = let n : _≡_ {A = ℕ} 3 1 = simp (first-is, q, if-false, ne-eqb 3 0 (λ z. omega (arith, z))) at e in omega (arith, n)
 
-  read-not-one : (cs : Calls machine) (i : ℕ) → bookReads end (hs cs) i .number ≡ 1 → ⊥
-  unfolding bookReads
-  read-not-one cs i = go (ltb i (length (hs cs))) refl
-    where
-      go : (b : Bool) → ltb i (length (hs cs)) ≡ b → bookReads end (hs cs) i .number ≡ 1 → ⊥
-      go true q e =
-          let l = ltb-true i (length (hs cs)) q in
-          let r = clean cs i (omega (arith, long cs, l)) in
-          let n : answer 0 (now end us cs i .stock) .number ≡ 1 = simp (q, r, if-true, if-false) at e in
-          let z : _≡_ {A = ℕ} 0 1 = sym (answer-number 0 (now end us cs i .stock)) ∙ n in
-          omega (arith, z)
-      go false q e = let n : _≡_ {A = ℕ} 3 1 = simp (q, if-false) at e in omega (arith, n)
+    read-not-one : bookReads end (hs cs) places places i .number ≡ 1 → ⊥
+    unfolding bookReads readAnswer
+    read-not-one = go (ltb i (length (hs cs))) refl
+      where
+        go : (b : Bool) → ltb i (length (hs cs)) ≡ b → bookReads end (hs cs) places places i .number ≡ 1 → ⊥
+        go true q e =
+            let l = ltb-true i (length (hs cs)) q in
+            let n : answer (reads (now end us cs i)) (now end us cs i .stock) .number ≡ 1 = simp (first-is, q, if-true, eq-eqb 0 0 refl) at e in
+            clean cs i (omega (arith, long cs, l)) (read-1 _ (sym (answer-number _ _) ∙ n))
+        go false q e = let n : _≡_ {A = ℕ} 3 1 = simp (first-is, q, if-false, ne-eqb 3 0 (λ z. omega (arith, z))) at e in omega (arith, n)
 
   -- ---------------------------------------------------------------- along a chain
 
@@ -172,7 +108,7 @@ module _ (end : ℕ) (us : List Setup) (accepted : Accepted end us) where
     (λ e. settled-not-one pre i s f time (sym (ap (λ x. x .answer .number) (k .0)) ∙ e)),
     never s f (pre ++ (record { at = i; it = settle time } ∷ [])) cs (subst (λ x. Answered end x cs) (sym (run-snoc end (book end us) pre _)) (k .1)),
   )
-  never s f pre (was-read i a ∷ cs) k = ((λ e. read-not-one pre i (sym (ap (λ x. x .number) (k .0)) ∙ e)), never s f pre cs (k .1))
+  never s f pre (was-read i a ∷ cs) k = ((λ e. read-not-one pre i s f (sym (ap (λ x. x .number) (k .0)) ∙ e)), never s f pre cs (k .1))
 
 -- ------------------------------------------------------------------ unused places
 

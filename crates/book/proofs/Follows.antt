@@ -1,28 +1,27 @@
 -- A call on the layout of a book of the rules answers as the rules do, and leaves the layout of what they make of that book.
 -- Assumes nothing.
 use Prim.Native.Nat.{ℕ, _*_, _≤_, _<_}
-use mathlib.Core.Bool.{Bool, true, false, not}
-use mathlib.Core.List.{List, [], _∷_}
+use mathlib.Core.Bool.{Bool, true, false}
+use mathlib.Core.List.{List}
 use mathlib.Core.Path.{_≡_, refl, ap, _∙_}
 use native.Mathlib.Omega.{arith}
 use borrow.Author.Tests.{ltb-true, ltb-false, lt-ltb, le-ltb, le-leb, lt-leb, eq-eqb, ne-eqb, eqb-true}
 use lib.Dec.{ltb, leb, eqb}
 use lib.ListN.{length, set}
 use lib.Seq.{set-getD}
-use Rattle.forms.specs.Choice.{if_then_else_, allOf}
+use Rattle.forms.specs.Choice.{if_then_else_}
 use Rattle.forms.specs.Checks.{first}
 use Rattle.forms.proofs.Choice.{if-true, if-false, any-not, any-empty, eq-not}
 use Rattle.rules.specs.Stock.{Whole}
 use Rattle.rules.specs.Moments.{fire}
 use Rattle.rules.specs.Messages.{after}
 use Rattle.rules.specs.Machine.{Every, tell, settle, stock, numberIn, stepIn}
-use Rattle.rules.specs.Book.{machine, blank, bookTells, bookSettles}
-use Rattle.rules.specs.Numbers.{rubbish, answer, badShape, callChecks, zeros, tells, settles, tellAnswer, settleAnswer}
+use Rattle.rules.specs.Book.{machine, blank, bookTells, bookSettles, bookReads}
+use Rattle.rules.specs.Numbers.{badShape, callChecks, zeros, tells, settles, tellAnswer, settleAnswer, readAnswer}
 use Rattle.rules.specs.declared.Message.{Message}
 use Rattle.stock.specs.View.{Bytes, bytes, view, reading, lay, Outcome, telling, settling}
 use Rattle.stock.proofs.Laws as stocks
 use Rattle.book.specs.Lent.{bytesOf, callNumber, calling, noNotice, readingIn}
-use Rattle.book.specs.Demands.{bookReads}
 use Rattle.book.specs.Layout.{empty, stockBytes, layout}
 use Rattle.book.proofs.Layouts.{Fits, in-shape, lay-again, length-records, length-times, length-prices, bytes-of, with-bytes}
 
@@ -51,15 +50,9 @@ module _ (h : Whole) (f : Fits h) where
   unfolding settling
   settling-is time k = simp (in-shape h f, if-true, read) (ap (λ x. record { answer = settleAnswer time h; bytes = x }) (laid (settles time h) (fire h) k))
 
--- what a stock of the shape shows when it is read
-seen : (rub : Bool) (h : Whole) → (if allOf (true ∷ not rub ∷ []) then answer 0 (h .stock) else zeros 1) ≡ (if rub then zeros 1 else answer 0 (h .stock))
-unfolding allOf if_then_else_
-seen true h = refl
-seen false h = refl
-
-reading-is : (h : Whole) → Fits h → reading (stockBytes h) ≡ (if rubbish h then zeros 1 else answer 0 (h .stock))
+reading-is : (h : Whole) → Fits h → reading (stockBytes h) ≡ readAnswer h
 unfolding reading
-reading-is h f = simp (in-shape h f, read h f) (seen (rubbish h) h)
+reading-is h f = simp (in-shape h f, read h f, if-true)
 
 -- ------------------------------------------------------------------ a book of 1 to 64 stocks
 
@@ -139,16 +132,16 @@ module _ (end : ℕ) (hs : List Whole) (all : Every Fits hs) (some : 1 ≤ lengt
       go false q = simp (first-number i, q, if-false, ne-eqb 3 0 (λ e. omega arith)) (absent i (settling time) noNotice (ltb-false _ _ q))
 
   -- reading it
-  pub read-follows : (i : ℕ) → (i < length hs → Fits (stock machine (blank end) hs i)) → readingIn i (layout hs) ≡ bookReads end hs i
+  pub read-follows : (i : ℕ) → (i < length hs → Fits (stock machine (blank end) hs i)) → readingIn i (layout hs) ≡ bookReads end hs places places i
   unfolding readingIn bookReads
   read-follows i f = go (ltb i (length hs)) refl
     where
-      go : (b : Bool) → ltb i (length hs) ≡ b → readingIn i (layout hs) ≡ bookReads end hs i
+      go : (b : Bool) → ltb i (length hs) ≡ b → readingIn i (layout hs) ≡ bookReads end hs places places i
       go true q =
           let l = ltb-true i (length hs) q in
           let h = stock machine (blank end) hs i in
           let z : callNumber i (layout hs) ≡ 0 = number-is i ∙ first-number i ∙ simp (q, if-true) in
-          simp (z, q, eq-eqb 0 0 refl, if-true) (ap reading (bytes-of hs all i l (blank end)) ∙ reading-is h (f l))
+          simp (z, first-number i, q, eq-eqb 0 0 refl, if-true) (ap reading (bytes-of hs all i l (blank end)) ∙ reading-is h (f l))
       go false q =
           let z : callNumber i (layout hs) ≡ 3 = number-is i ∙ first-number i ∙ simp (q, if-false) in
-          simp (z, q, ne-eqb 3 0 (λ e. omega (arith, e)), if-false)
+          simp (z, first-number i, q, ne-eqb 3 0 (λ e. omega (arith, e)), if-false)

@@ -6,14 +6,12 @@
 use Prim.Native.Nat.{ℕ, _*_, _≤_, _<_}
 use mathlib.Core.List.{List, [], _∷_}
 use mathlib.Core.Path.{_≡_}
-use lib.Dec.{ltb}
 use lib.ListN.{length, getD}
-use Rattle.forms.specs.Choice.{if_then_else_}
 use Rattle.forms.specs.Promises.{Determines}
 use Rattle.rules.specs.Stock.{Whole}
-use Rattle.rules.specs.Machine.{messages, notices, tell, settle, Calls, stock, stepIn, run}
-use Rattle.rules.specs.Book.{machine, blank, book, story, Settled, bookTells, bookSettles}
-use Rattle.rules.specs.Numbers.{rubbish, zeros, answer, fresh, afterTelling, afterSettling, tellAnswer, settleAnswer, setupAnswer}
+use Rattle.rules.specs.Machine.{messages, notices, tell, settle, Calls, stepIn, run}
+use Rattle.rules.specs.Book.{machine, blank, book, story, Settled, bookTells, bookSettles, bookReads}
+use Rattle.rules.specs.Numbers.{zeros, fresh, afterTelling, afterSettling, tellAnswer, settleAnswer, setupAnswer}
 use Rattle.rules.specs.declared.Answer.{Answer}
 use Rattle.rules.specs.declared.Message.{Message}
 use Rattle.rules.specs.declared.Notice.{Notice}
@@ -72,12 +70,6 @@ pub record Demand1 (𝓕 : Family) : Type 0 where
 
 -- ------------------------------------------------------------------ demand 2
 
--- what reading stock i is answered: what it shows, 1 where it is rubbish, 3 where there is none
-unfoldable pub bookReads : ℕ → List Whole → ℕ → Answer
-bookReads end hs i =
-    let h = stock machine (blank end) hs i in
-    if ltb i (length hs) then (if rubbish h then zeros 1 else answer 0 (h .stock)) else zeros 3
-
 -- each call is answered as the rules answer it, of the book that the calls before it have left
 abbrev pub Answered : ℕ → List Whole → List Made → Type 0
 Answered end hs [] = Unit {0}
@@ -87,7 +79,7 @@ Answered end hs (told i m a ∷ cs) =
 Answered end hs (settled i time a ∷ cs) =
     (a ≡ bookSettles end hs (512 * length hs) (512 * length hs) i time)
     × Answered end (stepIn machine (blank end) hs (record { at = i; it = settle time })) cs
-Answered end hs (was-read i a ∷ cs) = (a ≡ bookReads end hs i) × Answered end hs cs
+Answered end hs (was-read i a ∷ cs) = (a ≡ bookReads end hs (512 * length hs) (512 * length hs) i) × Answered end hs cs
 
 -- A setup is answered as the rules answer it; accepted, it leaves the layout of the book that it starts, and refused, every byte. After an
 -- accepted one, whatever calls follow are answered as the rules answer them, and the bytes are the layout of what they leave.

@@ -4,3 +4,4 @@ pub mod Tables
 pub mod Loops
 pub mod Promises
 pub mod Bools
+pub mod Decides

@@ -6,16 +6,16 @@ use mathlib.Core.List.{List, [], _∷_, _++_}
 use mathlib.Core.Path.{_≡_, refl}
 use native.Mathlib.Nat.{le-refl}
 use native.Mathlib.Omega.{arith}
-use borrow.Author.Tests.{ltb-false, eqb-true, le-ltb, ne-eqb}
+use borrow.Author.Tests.{eqb-true, le-ltb, ne-eqb}
 use lib.Dec.{eqb}
 use lib.ListN.{length}
 use Rattle.forms.specs.Choice.{if_then_else_, anyOf}
-use Rattle.forms.proofs.Choice.{if-arms, all-head, all-tail, any-head, any-tail}
+use Rattle.forms.proofs.Choice.{if-arms, all-head, all-tail}
 use Rattle.rules.specs.Stock.{Trade, Whole, Waiting, Trading, Limit, Paused, Late, stateOf, clockOf, is, at-time, in-state, enter-limit, enter-pause, not-early, refer-to, hold-ended, oldest, figuresOf, meanIn, staying}
 use Rattle.rules.specs.States.{look, begin-trading, test, begin-pause, shut}
 use Rattle.rules.specs.Moments.{first-five, effect, windowAfter, come, nextOf, fire}
 use Rattle.rules.specs.Messages.{after}
-use Rattle.rules.specs.Numbers.{badEnd, fresh, notice}
+use Rattle.rules.specs.Numbers.{fresh, notice}
 use Rattle.rules.specs.Machine.{message, moment, Lawful, left}
 use Rattle.rules.specs.Book.{machine, Story}
 use Rattle.rules.specs.Readings.{MomentsOnly}
@@ -196,9 +196,9 @@ come-spends m h r l row = go row
 spent : (ns : Story) (h : Whole) → Sane h → Timely h → Lawful machine h ns → MomentsOnly ns
     → 300_000 * length ns + gone (h .stock) ≤ 300_000 * still (length (h .window)) (h .stock) + 261_000_000
 unfolding fire notice
-spent [] h i j v o = unfold gone badEnd in
+spent [] h i j v o = unfold gone in
     let r = gone-by (h .stock) (i .stock .ranges) in
-    omega (arith, ltb-false 23_400_000 (h .stock .end) (any-head _ _ (any-tail _ _ (i .end-ok))))
+    omega (arith, i .end-ok .1)
 spent (message m ∷ ns) h i j v o = absurd o
 spent (moment n ∷ ns) h i j v o =
     let e = v .0 .1 in

@@ -3,62 +3,65 @@
 use Prim.Native.Nat.{ℕ, _+_, _≤_}
 use mathlib.Core.Bool.{Bool, true, not}
 use mathlib.Core.List.{List, [], _∷_}
+use mathlib.Core.Logic.{inl, inr}
 use mathlib.Core.Path.{_≡_, refl, sym, ap, _∙_}
 use native.Mathlib.Decide.{ℕ-discrete}
 use native.Mathlib.Omega.{arith}
-use borrow.Author.Tests.{ltb-false, eqb-true, eqb-false, eq-eqb, not-true}
+use borrow.Author.Tests.{eqb-true, eqb-false, eq-eqb, not-true}
 use lib.Dec.{eqb}
-use Rattle.forms.specs.Choice.{if_then_else_, allOf}
-use Rattle.forms.proofs.Choice.{if-arms, all-head, all-tail, all-yes, all-empty, any-head, any-tail, ne-not, all-leb}
-use Rattle.rules.specs.Stock.{Whole, Waiting, stateOf, at-time, hold-ended, figuresOf}
-use Rattle.rules.specs.States.{begin-pause, shut}
-use Rattle.rules.specs.Moments.{mark-v, mark-f, momentTable, next, effect, come, nextOf, fire}
+use Rattle.forms.specs.Choice.{allOf}
+use Rattle.forms.proofs.Choice.{if-arms, all-head, all-tail, all-yes, all-empty, ne-not, all-leb}
+use Rattle.rules.specs.Stock.{Whole, Waiting, stateOf, figuresOf}
+use Rattle.rules.specs.Moments.{mark-v, mark-f, momentTable, next, nextOf, fire}
 use Rattle.rules.specs.Messages.{after}
-use Rattle.rules.specs.Numbers.{badEnd, badStock, rubbish, settles, fresh, notice}
+use Rattle.rules.specs.Numbers.{tells, settles, fresh, notice}
 use Rattle.rules.specs.Machine.{message, moment, Lawful, left}
 use Rattle.rules.specs.Book.{machine, Story}
+use Rattle.rules.specs.Changes.{letterOf, IsNew}
 use Rattle.rules.specs.Readings.{markOf, countOf}
 use Rattle.rules.specs.Pauses.{before}
-use Rattle.rules.specs.Demands.{leaves, OneF}
+use Rattle.rules.specs.Demands.{leaves, CanHappen, OneF}
 use Rattle.rules.specs.declared.Stock.{Stock}
-use Rattle.rules.specs.declared.Figures.{Figures}
+use Rattle.rules.specs.declared.Notice.{Notice}
 use Rattle.rules.specs.declared.Message.{Message}
+use Rattle.rules.proofs.After.{quiet, no-mark}
+use Rattle.rules.proofs.Changed.{kept}
 use Rattle.rules.proofs.Earliest.{IsMoment, none-before}
-use Rattle.rules.proofs.Kept.{Stands, look-stands, trading-stands, test-stands, five-stands, does-stands, effect-by}
-use Rattle.rules.proofs.Lawful.{machineLaws}
-use Rattle.rules.proofs.Passed.{settled}
 use Rattle.rules.proofs.Events.{event-clock}
-use Rattle.rules.proofs.Stays.{test-else, by-row}
+use Rattle.rules.proofs.Lawful.{machineLaws}
+use Rattle.rules.proofs.MomentRows.{by-row}
+use Rattle.rules.proofs.Numbers.{settled-sound}
 use Rattle.rules.proofs.Pauses.{before-by, before-clock}
+use Rattle.rules.proofs.Ranges.{in-end}
 
 -- ------------------------------------------------------------------ only f ends `early`
 
 abbrev early : Stock → ℕ
 early s = s .course .early
 
-stands-early : (n : ℕ) → Stands (λ s. early s ≡ n)
-stands-early n = record { in-limit = λ s e. e; referred = λ r s e. e; in-trading = λ r s e. e }
+message-early : (m : Message) (h : Whole) → tells m h ≡ 0 → early (after m h .stock) ≡ early (h .stock)
+message-early m h e = go (kept h (message m) (e, tt) .1 .1 .1 .1 .1)
+  where
+    go : IsNew (letterOf (message m) ≡ mark-f) (early (after m h .stock)) 0 (early (h .stock)) → early (after m h .stock) ≡ early (h .stock)
+    go (inl k) = absurd (no-mark m (k .0))
+    go (inr k) = k .1
 
-effect-early : (mark : ℕ) (f : Figures) (s : Stock) → (mark ≡ mark-f → ⊥) → early (effect mark f s) ≡ early s
-unfolding shut begin-pause
-effect-early mark f s n =
-    let k = stands-early (early s) in
-    effect-by (λ s′. early s′ ≡ early s) mark f s (λ _. refl) (λ _. look-stands k s refl) (λ _. refl) (λ _. trading-stands k _ s refl) (λ _. refl)
-    (λ _. test-stands k f s refl) (λ e. absurd (n e)) (test-stands k f (hold-ended s) refl)
+module _ (h : Whole) (n : Notice) (v : CanHappen h (moment n)) where
+  f-ends : n .moment .mark ≡ mark-f → early (fire h .stock) ≡ 0
+  f-ends f = go (kept h (moment n) v .1 .1 .1 .1 .1)
+    where
+      go : IsNew (n .moment .mark ≡ mark-f) (early (fire h .stock)) 0 (early (h .stock)) → early (fire h .stock) ≡ 0
+      go (inl k) = k .1
+      go (inr k) = absurd (k .0 f)
 
-message-early : (m : Message) (h : Whole) → early (after m h .stock) ≡ early (h .stock)
-unfolding after shut begin-pause
-message-early m h = does-stands (stands-early _) m _ (λ i b o. refl) refl refl refl
+  other-leaves : ¬ (n .moment .mark ≡ mark-f) → early (fire h .stock) ≡ early (h .stock)
+  other-leaves o = go (kept h (moment n) v .1 .1 .1 .1 .1)
+    where
+      go : IsNew (n .moment .mark ≡ mark-f) (early (fire h .stock)) 0 (early (h .stock)) → early (fire h .stock) ≡ early (h .stock)
+      go (inl k) = absurd (o (k .0))
+      go (inr k) = k .1
 
 -- ------------------------------------------------------------------ the moment f
-
-f-ends : (h : Whole) → nextOf h .mark ≡ mark-f → early (fire h .stock) ≡ 0
-unfolding fire come effect if_then_else_
-f-ends h e = rw e (five-stands (stands-early 0) _ _ refl)
-
-other-leaves : (h : Whole) → (nextOf h .mark ≡ mark-f → ⊥) → early (fire h .stock) ≡ early (h .stock)
-unfolding fire come
-other-leaves h n = effect-early (nextOf h .mark) _ _ n
 
 -- tests of a row, as `omega` reads them
 all-then-some : (b : Bool) (a : ℕ) (bs : List Bool) → allOf (b ∷ not (eqb a 0) ∷ bs) ≡ true → 1 ≤ a
@@ -82,9 +85,8 @@ unfolding momentTable
 f-or-v h m w l =
     by-row h m (λ m. m .time ≤ 300_000 → (m .mark ≡ mark-f → ⊥) → m .mark ≡ mark-v) (omega (arith, eqb-true, all-leb))
 
-v-waits : (h : Whole) → stateOf (h .stock) ≡ Waiting → nextOf h .mark ≡ mark-v → stateOf (fire h .stock) ≡ Waiting
-unfolding fire come effect if_then_else_
-v-waits h w e = rw (e, test-else _ (at-time (nextOf h .time) (h .stock)) (omega arith)) w
+v-waits : (h : Whole) (n : Notice) → CanHappen h (moment n) → stateOf (h .stock) ≡ Waiting → n .moment .mark ≡ mark-v → stateOf (fire h .stock) ≡ Waiting
+v-waits h n v w e = quiet h n v (λ t. omega arith) mark-v e refl refl .1 ∙ w
 
 -- ------------------------------------------------------------------ a story
 
@@ -94,24 +96,23 @@ f-count : (h : Whole) (es : Story) → Lawful machine h es → early (h .stock) 
 unfolding countOf notice
 f-count h [] v k = omega arith
 f-count h (message m ∷ es) v k =
-    let e = message-early m h in
+    let e = message-early m h (v .0) in
     omega (arith, f-count (after m h) es (v .1) (omega arith))
 f-count h (moment n ∷ es) v k =
     let m = machineLaws .its-time (v .0 .0) h (v .0 .1) .0 in
     let e : markOf n ≡ nextOf h .mark = ap (λ n. n .moment .mark) (v .1) in
     if-arms (λ one. one + countOf mark-f es + early (left machine (fire h) es .stock) ≡ early (h .stock)) _
-    (λ q. let f = sym e ∙ eqb-true (markOf n) mark-f q in
-    let o = f-ends h f in
-    omega (arith, f-early h m f, f-count (fire h) es (v .2) (omega arith)))
-    (λ q. let o = other-leaves h (λ f. eqb-false (markOf n) mark-f q (e ∙ f)) in
+    (λ q. let f = eqb-true (markOf n) mark-f q in
+    let o = f-ends h n (v .0, v .1, tt) f in
+    omega (arith, f-early h m (sym e ∙ f), f-count (fire h) es (v .2) (omega arith)))
+    (λ q. let o = other-leaves h n (v .0, v .1, tt) (eqb-false (markOf n) mark-f q) in
     omega (arith, f-count (fire h) es (v .2) (omega arith)))
 
 over : (h : Whole) (es : Story) → Lawful machine h es → early (h .stock) ≡ 0 → early (left machine h es .stock) ≡ 0
 over h es v e = omega (arith, f-count h es v (omega arith))
 
 end-least : (h : Whole) (t : ℕ) → settles t h ≡ 0 → 3_600_000 ≤ h .stock .end
-unfolding rubbish badStock badEnd
-end-least h t e = ltb-false (h .stock .end) 3_600_000 (any-head _ _ (any-head _ _ (any-tail _ _ (any-tail _ _ (any-head _ _ (settled t h e .sound))))))
+end-least h t e = in-end (h .stock .end) (λ n. settled-sound t h e (inl (inr (inr (inl n))))) .0
 
 -- f is not left out
 f-happens : (h : Whole) (es : Story) (time : ℕ) → Lawful machine h es → settles time (left machine h es) ≡ 14 → 300_000 ≤ time
@@ -127,8 +128,10 @@ f-happens h (moment n ∷ es) time v q l x =
     let rec : stateOf (left machine (fire h) (before 300_000 es) .stock) ≡ Waiting → ⊥ = f-happens (fire h) es time (v .2) q l x in
     before-by (λ s. stateOf (left machine h s .stock) ≡ Waiting → ⊥) 300_000 (moment n) es (λ _. rec)
     (λ k w. let f = f-comes h w (λ e. x (over h (moment n ∷ es) v e)) in
-    let a = f-or-v h (f .0) w (end-least h (v .0 .0) (v .0 .1)) (f .1) (λ e. x (over (fire h) es (v .2) (f-ends h e))) in
-    rec (rw (before-clock 300_000 (fire h) es (v .2) (omega (arith, event-clock h (moment n) es v))) (v-waits h w a)))
+    let once : CanHappen h (moment n) = (v .0, v .1, tt) in
+    let same : markOf n ≡ nextOf h .mark = ap (λ n. n .moment .mark) (v .1) in
+    let a = f-or-v h (f .0) w (end-least h (v .0 .0) (v .0 .1)) (f .1) (λ e. x (over (fire h) es (v .2) (f-ends h n once (same ∙ e)))) in
+    rec (rw (before-clock 300_000 (fire h) es (v .2) (omega (arith, event-clock h (moment n) es v))) (v-waits h n once w (same ∙ a))))
 
 pub one-f : OneF
 unfolding fresh

@@ -2,24 +2,28 @@
 -- Assumes nothing.
 use Prim.Native.Nat.{ℕ, _+_, _≤_, _<_, _-_}
 use mathlib.Core.Bool.{Bool, true, false, true≢false}
-use mathlib.Core.List.{List, [], _∷_, _++_, foldl}
-use mathlib.Core.Logic.{_⊎_, inl, inr}
+use mathlib.Core.List.{List, [], _∷_, _++_}
+use mathlib.Core.Logic.{_⊎_, inl, inr, ⊎-map}
 use mathlib.Core.Path.{_≡_, refl, sym, ap, _∙_}
 use native.Mathlib.Omega.{arith}
-use borrow.Author.Tests.{leb-true, ltb-true, ltb-false, eqb-true, eqb-false, lt-ltb, le-ltb, le-leb}
+use borrow.Author.Tests.{eq-eqb, ne-eqb, leb-true, ltb-true, ltb-false, eqb-true, lt-ltb, le-ltb, le-leb}
 use lib.Dec.{lit≤, leb, ltb, eqb}
 use lib.ListN.{length}
 use Rattle.forms.specs.Choice.{if_then_else_, allOf, anyOf}
-use Rattle.forms.proofs.Choice.{if-true, if-false, if-arms, all-tail, all-yes, all-empty, any-head, any-tail, ne-not, if-no, all-leb, all-eqb}
+use Rattle.forms.proofs.Choice.{if-true, if-false, if-arms, all-tail, all-yes, all-empty, ne-not, all-leb, all-eqb}
+use Rattle.forms.specs.Words.{Gives}
+use Rattle.forms.proofs.Decides.{is-false, either-way, by-eq, past}
 use Rattle.rules.specs.Stock.{hold-ended, Trade, Whole, stateOf, clockOf, oldest, figuresOf, staying}
 use Rattle.rules.specs.States.{begin-pause}
 use Rattle.rules.specs.Moments.{mark-v, momentTable, next, effect, windowAfter, come, nextOf, fire}
-use Rattle.rules.specs.Messages.{kind, timeOf, taken, does, after}
-use Rattle.rules.specs.Numbers.{Seen, badTrade, see, badTrades, badStock, rubbish, tells, settles, fresh, notice}
+use Rattle.rules.specs.Messages.{timeOf, does, after}
+use Rattle.rules.specs.Numbers.{tells, settles, fresh, notice}
 use Rattle.rules.specs.Machine.{message, moment, Lawful, left}
 use Rattle.rules.specs.Book.{machine, Story}
-use Rattle.rules.specs.Readings.{closes, joins, joined, recent}
-use Rattle.rules.specs.Demands.{leaves, HeldTrades}
+use Rattle.rules.specs.Changes.{closes, joins, recent, IsNew}
+use Rattle.rules.specs.Readings.{joined}
+use Rattle.rules.specs.Words.{BadTrade, Rubbish, ownRefusals}
+use Rattle.rules.specs.Demands.{leaves, TradesAre, HeldTrades}
 use Rattle.rules.specs.declared.Stock.{Stock}
 use Rattle.rules.specs.declared.Figures.{Figures}
 use Rattle.rules.specs.declared.Moment.{Moment}
@@ -30,30 +34,24 @@ use Rattle.rules.proofs.Passed.{told, settled, idle}
 use Rattle.rules.proofs.Lawful.{when-due, when-not, machineLaws, next-not-past}
 use Rattle.rules.proofs.Kept.{Stands, look-stands, trading-stands, test-stands, five-stands, trade-stands, quote-stands}
 use Rattle.rules.proofs.Last.{effect-open}
-use Rattle.rules.proofs.Sound.{IsPrice, InOrder, is-price, never-rubbish}
+use Rattle.rules.proofs.Sound.{InOrder, never-rubbish}
+use Rattle.rules.proofs.Numbers.{rubbish-is, settled-sound, taken-words}
+use Rattle.rules.proofs.Ranges.{in-price}
 use Rattle.rules.proofs.Timely.{mark-rows}
 use native.Mathlib.Decide.{ℕ-discrete}
 
 -- ------------------------------------------------------------------ a window that check 1 lets pass
 
-follows : (clock last : ℕ) (t : Trade) → badTrade clock last t ≡ false → IsPrice (t .price) × (last ≤ t .at) × (t .at ≤ clock)
-unfolding badTrade
-follows clock last t e =
-    let rest = any-tail _ _ e in
-    (is-price (t .price) (any-head _ _ e), ltb-false (t .at) last (any-head _ _ (any-tail _ _ rest)), ltb-false clock (t .at) (any-head _ _ rest))
+in-order : (clock ahead : ℕ) (w : List Trade) → ¬ BadTrade clock ahead w → InOrder ahead clock w
+in-order clock ahead [] n = tt
+in-order clock ahead (t ∷ w) n =
+    let price = in-price (t .price) (λ k. n (inl (inl k))) in
+    let from : ¬ (t .at < ahead) = λ k. n (inl (inr (inr k))) in
+    let to : ¬ (clock < t .at) = λ k. n (inl (inr (inl k))) in
+    (price, omega arith, omega arith, in-order clock (t .at) w (λ k. n (inr k)))
 
-seen-in-order : (clock : ℕ) (s : Seen) (w : List Trade) → foldl (see clock) s w .bad ≡ false → (s .bad ≡ false) × InOrder (s .last) clock w
-unfolding see
-seen-in-order clock s [] e = (e, tt)
-seen-in-order clock s (t ∷ ts) e =
-    let rest = seen-in-order clock (see clock s t) ts e in
-    let here = if-no (s .bad) _ (rest .0) in
-    let t-follows = follows clock (s .last) t (here .1) in
-    (here .0, (t-follows .0, t-follows .1, t-follows .2, rest .1))
-
-window-in-order : (h : Whole) → rubbish h ≡ false → InOrder 0 (clockOf (h .stock)) (h .window)
-unfolding rubbish badTrades
-window-in-order h e = seen-in-order _ _ (h .window) (any-head _ _ (any-tail _ _ (any-tail _ _ e))) .1
+window-in-order : (h : Whole) → ¬ Rubbish h → InOrder 0 (clockOf (h .stock)) (h .window)
+window-in-order h n = in-order _ 0 (h .window) (λ k. n (inr (inr (inl k))))
 
 -- ------------------------------------------------------------------ recent trades
 
@@ -95,26 +93,47 @@ module _ (time clock : ℕ) where
       go ih true e = ap (λ z. a ∷ z) (sym (recent-all (a .at) l (o .3) (ltb-true time (a .at + 300_000) e)))
       go ih false e = ih
 
+-- ------------------------------------------------------------------ the window after an event
+
+moment-trades : (m : Moment) (clock : ℕ) (w : List Trade) → InOrder 0 clock w
+    → IsNew (m .mark ≡ mark-v) (windowAfter m w) (recent (m .time) w) (if closes (m .mark) then [] else w)
+unfolding windowAfter
+moment-trades m clock w o = ⊎-map
+    (λ e. (e, if-true _ _ _ (eq-eqb (m .mark) mark-v e) ∙ staying-recent (m .time) clock 0 w o))
+    (λ n. (n, if-false _ _ _ (ne-eqb (m .mark) mark-v n)))
+    (either-way _ (by-eq (m .mark) mark-v))
+
+pub trades : TradesAre
+unfolding after does fire come notice
+trades h (message (T time price)) v = inr ((λ z. omega arith), refl)
+trades h (message (Q time participant bid offer)) v = inr ((λ z. omega arith), refl)
+trades h (message (O time participant price)) v = inr ((λ z. omega arith), refl)
+trades h (message (P time participant)) v = inr ((λ z. omega arith), refl)
+trades h (message (R time participant price)) v = inr ((λ z. omega arith), refl)
+trades h (message (X time participant price)) v = inr ((λ z. omega arith), refl)
+trades h (moment n) v = rw (v .1) (moment-trades (nextOf h) _ (h .window) (window-in-order h (settled-sound (v .0 .0) h (v .0 .1))))
+
 -- ------------------------------------------------------------------ a stock to which something happens is not closed
 
 abbrev Low : Stock → Type 0
 Low s = stateOf s ≤ 4
 
 told-low : (m : Message) (h : Whole) → tells m h ≡ 0 → Low (h .stock)
-unfolding rubbish badStock taken if_then_else_
-told-low m h e = go (eqb (stateOf (h .stock)) 5) refl
+told-low m h e = go m (taken-words m h e .own-passed)
   where
-    shut-takes : (m : Message) → taken (kind m) 5 ≡ 0 → ⊥
-    shut-takes (T t a) z = omega arith
-    shut-takes (Q t i b o) z = omega arith
-    shut-takes (O t i a) z = omega arith
-    shut-takes (P t i) z = omega arith
-    shut-takes (R t i a) z = omega arith
-    shut-takes (X t i a) z = omega arith
+    state : ¬ (5 < stateOf (h .stock))
+    state l = taken-words m h e .sound (inl (inl l))
 
-    go : (b : Bool) → eqb (stateOf (h .stock)) 5 ≡ b → Low (h .stock)
-    go true p = absurd (shut-takes m (rw (eqb-true (stateOf (h .stock)) 5 p) at (told m h e .state-takes)))
-    go false p = omega (arith, ltb-false 5 (stateOf (h .stock)) (any-head _ _ (any-head _ _ (told m h e .sound))), eqb-false (stateOf (h .stock)) 5 p)
+    low : ¬ (stateOf (h .stock) ≡ 5) → Low (h .stock)
+    low n = omega (arith, state)
+
+    go : (m : Message) → Gives (ownRefusals m h) 0 → Low (h .stock)
+    go (T t a) g = low (past 7 0 _ _ (λ z. omega arith) g .0)
+    go (Q t i b o) g = low (past 7 0 _ _ (λ z. omega arith) g .0)
+    go (O t i a) g = low (past 7 0 _ _ (λ z. omega arith) (past 8 0 _ _ (λ z. omega arith) g .1) .0)
+    go (P t i) g = low (past 7 0 _ _ (λ z. omega arith) (past 8 0 _ _ (λ z. omega arith) g .1) .0)
+    go (R t i a) g = low (past 7 0 _ _ (λ z. omega arith) (past 8 0 _ _ (λ z. omega arith) g .1) .0)
+    go (X t i a) g = low (past 7 0 _ _ (λ z. omega arith) (past 8 0 _ _ (λ z. omega arith) g .1) .0)
 
 between : (a n b : ℕ) (bs : List Bool) → allOf (leb a n ∷ leb n b ∷ bs) ≡ true → n ≤ b
 between a n b bs e = all-leb n b bs (all-tail _ _ e)
@@ -193,7 +212,7 @@ moment-holds : (t : ℕ) (h : Whole) (l : List Trade) → Holds h l → settles 
 unfolding fire come notice recent if_then_else_
 moment-holds t h l i e =
     let k = machineLaws .forward t h e in
-    let r = moment-window (nextOf h) _ (i .cut) (h .window) l (window-in-order h (settled t h e .sound)) (omega (arith, i .cut-by)) (i .held) in
+    let r = moment-window (nextOf h) _ (i .cut) (h .window) l (window-in-order h (settled-sound t h e)) (omega (arith, i .cut-by)) (i .held) in
     record {
       cut = r .0;
       cut-by = omega (arith, machineLaws .at-moment h, r .1);
@@ -244,7 +263,7 @@ held-trades end u es a = (
     i : Holds h (joined [] es)
     i = left-holds es (fresh end u) [] (record { cut = 0; cut-by = lit≤ tt; held = refl; live = inl (lit≤ tt) }) (a .lawful)
 
-    sound : rubbish h ≡ false
+    sound : ¬ Rubbish h
     sound = never-rubbish end u es a
 
     none-left : (time : ℕ) → Later time (nextOf h) → Low (h .stock) ⊎ (h .window ≡ []) → recent time (h .window) ≡ h .window
@@ -260,4 +279,4 @@ held-trades end u es a = (
     at-clock (no n) =
         let c = clockOf (h .stock) - 1 in
         let b = i .cut-by in
-        (c, omega arith, omega arith, held-at c (λ is. omega (arith, next-not-past h sound is)) (omega arith))
+        (c, omega arith, omega arith, held-at c (λ is. omega (arith, next-not-past h (is-false _ (rubbish-is h) sound) is)) (omega arith))

@@ -6,27 +6,29 @@ use mathlib.Core.List.{List, [], _∷_}
 use mathlib.Core.Logic.{_⊎_, inl, inr}
 use mathlib.Core.Path.{_≡_, refl, sym, ap, _∙_}
 use native.Mathlib.Omega.{arith}
-use borrow.Author.Tests.{eqb-true, eqb-false}
-use lib.Dec.{eqb, lit≤}
+use borrow.Author.Tests.{ne-eqb, eqb-true, eqb-false}
+use lib.Dec.{eqb}
 use lib.ListN.{length, getD, set, replicate, length-set, getD-replicate}
 use lib.Seq.{getD-set-same, getD-set-other}
 use Rattle.forms.specs.Choice.{if_then_else_}
-use Rattle.forms.proofs.Choice.{both-arms, if-arms, any-head, any-tail, any-not, any-empty}
+use Rattle.forms.proofs.Choice.{if-arms, any-head, any-tail, any-not, any-empty}
 use Rattle.rules.specs.Stock.{Whole, hold-ended}
 use Rattle.rules.specs.States.{look, begin-trading, test, begin-pause, noQuotes, shut}
 use Rattle.rules.specs.Moments.{mark-z, mark-c, first-five, effect, come, nextOf, fire}
-use Rattle.rules.specs.Messages.{with-quote, does, after}
+use Rattle.rules.specs.Messages.{letter-Q, with-quote, does, after}
 use Rattle.rules.specs.Numbers.{fresh, notice}
-use Rattle.rules.specs.Machine.{message, moment, Lawful, left}
+use Rattle.rules.specs.Machine.{Event, message, moment, Lawful, left, becomes}
 use Rattle.rules.specs.Book.{machine, Story}
-use Rattle.rules.specs.Readings.{closes, quoteBy, lastQuote}
-use Rattle.rules.specs.Demands.{ClockIs, LastQuotes, leaves}
+use Rattle.rules.specs.Changes.{letterOf, closes, quoteBy, Quoted, Closes}
+use Rattle.rules.specs.Readings.{lastQuote}
+use Rattle.rules.specs.Demands.{CanHappen, QuotesAre, ClockIs, LastQuotes}
 use Rattle.rules.specs.declared.Quotes.{Quotes}
 use Rattle.rules.specs.declared.Stock.{Stock}
 use Rattle.rules.specs.declared.Figures.{Figures}
+use Rattle.rules.specs.declared.Notice.{Notice}
 use Rattle.rules.specs.declared.Message.{Message}
 use Rattle.rules.specs.declared.Message.the-variants.{Trade as T, Quote as Q, Opening as O, Pause as P, Reopening as R, Closing as X}
-use Rattle.rules.proofs.Events.{kept-left}
+use Rattle.rules.proofs.Events.{first-lawful, rest-lawful, kept-left}
 use Rattle.rules.proofs.Kept.{Stands, look-stands, trading-stands, test-stands, five-stands, trade-stands, quote-stands, effect-by}
 
 -- ------------------------------------------------------------------ the clock
@@ -62,47 +64,11 @@ effect-open F mark f s e w x p v five h =
     effect-by F mark f s (λ z. absurd (eqb-false mark _ (any-head _ _ e) z)) (λ _. w) (λ _. x) (λ _. p)
     (λ c. absurd (eqb-false mark _ (any-head _ _ (any-tail _ _ e)) c)) (λ _. v) (λ _. five) h
 
--- ------------------------------------------------------------------ the quotes change by a quote and by closing only
-
-stands-quotes : (q : Quotes) → Stands (λ s. s .quotes ≡ q)
-stands-quotes q = record { in-limit = λ s e. e; referred = λ r s e. e; in-trading = λ r s e. e }
-
--- the quotes after a message
-abbrev quotesBy : Message → Quotes → Quotes
-quotesBy (T time price) q = q
-quotesBy (Q time participant bid offer) q = record { bids = set (q .bids) participant bid; offers = set (q .offers) participant offer }
-quotesBy (O time participant price) q = q
-quotesBy (P time participant) q = q
-quotesBy (R time participant price) q = q
-quotesBy (X time participant price) q = noQuotes
-
-does-quotes : (m : Message) (h : Whole) → does m h .stock .quotes ≡ quotesBy m (h .stock .quotes)
-unfolding does begin-pause shut
-does-quotes (T t a) h = trade-stands (stands-quotes _) _ _ refl
-does-quotes (Q t i b o) h = quote-stands (stands-quotes _) _ (with-quote i b o (h .stock)) refl
-does-quotes (O t i a) h = trading-stands (stands-quotes _) a _ refl
-does-quotes (P t i) h = refl
-does-quotes (R t i a) h = trading-stands (stands-quotes _) a _ refl
-does-quotes (X t i a) h = refl
-
-effect-quotes : (mark : ℕ) (f : Figures) (s : Stock) → effect mark f s .quotes ≡ (if closes mark then noQuotes else s .quotes)
-unfolding shut begin-pause
-effect-quotes mark f s =
-    let k = stands-quotes (s .quotes) in
-    if-arms (λ q. effect mark f s .quotes ≡ q) (closes mark)
-    (λ e. ap (λ s. s .quotes) (effect-closing mark f s e))
-    (λ e. effect-open (λ r. r .quotes ≡ s .quotes) mark f s e (look-stands k s refl) refl (trading-stands k _ s refl) (test-stands k f s refl)
-    (five-stands k f s refl) (test-stands k f (hold-ended s) refl))
-
--- ------------------------------------------------------------------ the quotes and the last ones of a participant
+-- ------------------------------------------------------------------ one participant's quotes
 
 -- a side of the 16 participants, of which participant i has `price`
 abbrev Holds : ℕ → List ℕ → ℕ → Type 0
 Holds i side price = (length side ≡ 16) × (getD side i 0 ≡ price)
-
--- the quotes, of which those of participant i are `last`
-abbrev Last : ℕ → Quotes → ℕ × ℕ → Type 0
-Last i q last = Holds i (q .bids) (last .0) × Holds i (q .offers) (last .1)
 
 set-same : (i price last : ℕ) (side : List ℕ) → i ≤ 15 → Holds i side last → Holds i (set side i price) price
 set-same i price last side l h = (length-set side i price ∙ h .0, getD-set-same side i price 0 (omega arith))
@@ -110,34 +76,80 @@ set-same i price last side l h = (length-set side i price ∙ h .0, getD-set-sam
 set-other : (i j price last : ℕ) (side : List ℕ) → (i ≡ j → ⊥) → Holds i side last → Holds i (set side j price) last
 set-other i j price last side n h = (length-set side j price ∙ h .0, getD-set-other side j i price 0 n ∙ h .1)
 
-none-last : (i : ℕ) → i ≤ 15 → Last i noQuotes (0, 0)
-none-last i l = let none : Holds i (replicate 16 0) 0 = (refl, getD-replicate {A = ℕ} 16 i 0 0 (omega arith)) in (none, none)
+-- both sides
+quoted : (i : ℕ) (q : Quotes) (last : ℕ × ℕ) → Holds i (q .bids) (last .0) → Holds i (q .offers) (last .1) → Quoted i q last
+quoted i q last b o = (b .0, (b .1, (o .0, o .1)))
 
-last-by : (i : ℕ) → i ≤ 15 → (m : Message) (q : Quotes) (last : ℕ × ℕ) → Last i q last → Last i (quotesBy m q) (quoteBy i last (message m))
-last-by i l (T t a) q last h = h
-last-by i l (Q t j b o) q last h = if-arms (Last i (quotesBy (Q t j b o) q)) (eqb j i)
-    (λ e. let same = eqb-true j i e in rw same (set-same i b _ (q .bids) l (h .0), set-same i o _ (q .offers) l (h .1)))
-    (λ e. let other : i ≡ j → ⊥ = λ p. eqb-false j i e (sym p) in (set-other i j b _ (q .bids) other (h .0), set-other i j o _ (q .offers) other (h .1)))
-last-by i l (O t j a) q last h = h
-last-by i l (P t j) q last h = h
-last-by i l (R t j a) q last h = h
-last-by i l (X t j a) q last h = none-last i l
+none-quoted : (i : ℕ) → i ≤ 15 → Quoted i noQuotes (0, 0)
+none-quoted i l = let none : Holds i (replicate 16 0) 0 = (refl, getD-replicate {A = ℕ} 16 i 0 0 (omega arith)) in quoted i noQuotes (0, 0) none none
 
-last-left : (i : ℕ) → i ≤ 15 → (es : Story) (h : Whole) (last : ℕ × ℕ) → Lawful machine h es → Last i (h .stock .quotes) last
-    → Last i (left machine h es .stock .quotes) (lastQuote i last es)
+set-quoted : (i : ℕ) → i ≤ 15 → (t j b o : ℕ) (s : Stock) (last : ℕ × ℕ) → Quoted i (s .quotes) last
+    → Quoted i (with-quote j b o s .quotes) (quoteBy i last (message (Q t j b o)))
+set-quoted i l t j b o s last h =
+    let q = s .quotes in
+    let bids : Holds i (q .bids) (last .0) = (h .0, h .1 .0) in
+    let offers : Holds i (q .offers) (last .1) = (h .1 .1 .0, h .1 .1 .1) in
+    if-arms (Quoted i (with-quote j b o s .quotes)) (eqb j i)
+    (λ e. let same = eqb-true j i e in rw same (quoted i (with-quote i b o s .quotes) (b, o) (set-same i b (last .0) (q .bids) l bids) (set-same i o (last .1) (q .offers) l offers)))
+    (λ e. let other : i ≡ j → ⊥ = λ p. eqb-false j i e (sym p) in
+    quoted i (with-quote j b o s .quotes) last (set-other i j b (last .0) (q .bids) other bids) (set-other i j o (last .1) (q .offers) other offers))
+
+-- ------------------------------------------------------------------ they change by a quote and by closing only
+
+-- what is said of the quotes alone stands through the state rules
+stands-quotes : (F : Quotes → Type 0) → Stands (λ s. F (s .quotes))
+stands-quotes F = record { in-limit = λ s e. e; referred = λ r s e. e; in-trading = λ r s e. e }
+
+does-quoted : (m : Message) (h : Whole) (i : ℕ) (last : ℕ × ℕ) → i ≤ 15 → Quoted i (h .stock .quotes) last
+    → Quoted i (does m h .stock .quotes) (quoteBy i last (message m))
+unfolding does begin-pause shut
+does-quoted (T t a) h i last l k = trade-stands (stands-quotes (λ q. Quoted i q last)) _ _ k
+does-quoted (Q t j b o) h i last l k = quote-stands (stands-quotes (λ q. Quoted i q (quoteBy i last (message (Q t j b o))))) _ (with-quote j b o (h .stock)) (set-quoted i l t j b o (h .stock) last k)
+does-quoted (O t j a) h i last l k = trading-stands (stands-quotes (λ q. Quoted i q last)) a _ k
+does-quoted (P t j) h i last l k = k
+does-quoted (R t j a) h i last l k = trading-stands (stands-quotes (λ q. Quoted i q last)) a _ k
+does-quoted (X t j a) h i last l k = none-quoted i l
+
+effect-quoted : (mark : ℕ) (f : Figures) (s : Stock) (i : ℕ) (last : ℕ × ℕ) → i ≤ 15 → Quoted i (s .quotes) last
+    → Quoted i (effect mark f s .quotes) (if closes mark then (0, 0) else last)
+unfolding shut begin-pause
+effect-quoted mark f s i last l k =
+    let stands = stands-quotes (λ q. Quoted i q last) in
+    if-arms (Quoted i (effect mark f s .quotes)) (closes mark)
+    (λ e. rw (effect-closing mark f s e) (none-quoted i l))
+    (λ e. effect-open (λ r. Quoted i (r .quotes) last) mark f s e (look-stands stands s k) k (trading-stands stands _ s k) (test-stands stands f s k)
+    (five-stands stands f s k) (test-stands stands f (hold-ended s) k))
+
+pub quotes : QuotesAre
 unfolding after fire come notice
-last-left i l [] h last v k = k
-last-left i l (message m ∷ es) h last v k =
-    last-left i l es (after m h) (quoteBy i last (message m)) (v .1) (rw (does-quotes m _) (last-by i l m (h .stock .quotes) last k))
-last-left i l (moment n ∷ es) h last v k =
-    last-left i l es (fire h) (quoteBy i last (moment n)) (v .2) (rw (v .1, effect-quotes (nextOf h .mark) _ _) (go (closes (nextOf h .mark))))
-  where
-    go : (c : Bool) → Last i (if c then noQuotes else h .stock .quotes) (if c then (0, 0) else last)
-    go c = both-arms (Last i) c (λ _. none-last i l) (λ _. k)
+quotes h (message m) v i last l k = does-quoted m _ i last l k
+quotes h (moment n) v i last l k = rw (v .1) (effect-quoted (nextOf h .mark) _ _ i last l k)
+
+-- all of them stay where nothing of this happens
+pub quotes-stay : (h : Whole) (e : Event Message Notice) → CanHappen h e → ¬ Closes e → ¬ (letterOf e ≡ letter-Q)
+    → becomes machine h e .stock .quotes ≡ h .stock .quotes
+unfolding after does begin-pause fire come notice
+quotes-stay h (message (T t a)) v c q = trade-stands (stands-quotes (λ q. q ≡ h .stock .quotes)) _ _ refl
+quotes-stay h (message (Q t i b o)) v c q = absurd (q refl)
+quotes-stay h (message (O t i a)) v c q = trading-stands (stands-quotes (λ q. q ≡ h .stock .quotes)) a _ refl
+quotes-stay h (message (P t i)) v c q = refl
+quotes-stay h (message (R t i a)) v c q = trading-stands (stands-quotes (λ q. q ≡ h .stock .quotes)) a _ refl
+quotes-stay h (message (X t i a)) v c q = absurd (c (inl refl))
+quotes-stay h (moment n) v c q =
+    let k = stands-quotes (λ q. q ≡ h .stock .quotes) in
+    let same : n .moment .mark ≡ nextOf h .mark = ap (λ n. n .moment .mark) (v .1) in
+    let not-closing : closes (nextOf h .mark) ≡ false = any-not _ _ (ne-eqb _ _ (λ z. c (inr (inl (same ∙ z)))))
+    (any-not _ _ (ne-eqb _ _ (λ z. c (inr (inr (inl (same ∙ z)))))) any-empty) in
+    effect-open (λ s. s .quotes ≡ h .stock .quotes) (nextOf h .mark) _ _ not-closing (look-stands k _ refl) refl (trading-stands k _ _ refl) (test-stands k _ _ refl)
+    (five-stands k _ _ refl) (test-stands k _ _ refl)
+
+-- ------------------------------------------------------------------ a story
 
 pub last-quotes : LastQuotes
 unfolding fresh
-last-quotes end u es a = (k 0 (lit≤ tt) .0 .0, k 0 (lit≤ tt) .1 .0, λ i l. (k i l .0 .1, k i l .1 .1))
+last-quotes end u es a i l = go es (fresh end u) (0, 0) (a .lawful) (none-quoted i l)
   where
-    k : (i : ℕ) → i ≤ 15 → Last i (leaves end u es .stock .quotes) (lastQuote i (0, 0) es)
-    k i l = last-left i l es (fresh end u) (0, 0) (a .lawful) (none-last i l)
+    go : (es : Story) (h : Whole) (last : ℕ × ℕ) → Lawful machine h es → Quoted i (h .stock .quotes) last
+        → Quoted i (left machine h es .stock .quotes) (lastQuote i last es)
+    go [] h last v k = k
+    go (e ∷ es) h last v k = go es (becomes machine h e) (quoteBy i last e) (rest-lawful h e es v) (quotes h e (first-lawful h e es v) i last l k)

@@ -8,8 +8,6 @@ pub mod Lawful
 pub mod Books
 pub mod Events
 pub mod MomentRows
-pub mod StateTable
-pub mod References
 pub mod Timely
 pub mod Sound
 pub mod Few
@@ -22,6 +20,14 @@ pub mod Resumes
 pub mod Last
 pub mod Held
 pub mod BestQuotes
+pub mod Ranges
+pub mod Coming
+pub mod Numbers
+pub mod Answers
+pub mod Means
+pub mod Changing
+pub mod Changed
+pub mod After
+pub mod Only
 pub mod Looks
 pub mod Since
-pub mod Accepted

@@ -62,6 +62,11 @@ rows f s =
 
 -- ------------------------------------------------------------------ the moment that happens
 
+-- what is so of each row still to come is so of the earliest moment
+pub by-row : (h : Whole) → IsMoment (nextOf h) → (F : Moment → Type 0) → Rows F (momentTable (figuresOf (h .window)) (h .stock)) → F (nextOf h)
+unfolding next
+by-row h m F rows = one-of F (momentTable (figuresOf (h .window)) (h .stock)) rows m
+
 -- the next moment of a stock is a row
 pub next-row : (f : Figures) (s : Stock) → IsMoment (next f s) → IsRow f s (next f s)
 unfolding next

@@ -10,7 +10,7 @@ use Rattle.forms.proofs.Checks.{beyond, own-passed, applied}
 use Rattle.rules.specs.Stock.{Whole, stateOf, clockOf}
 use Rattle.rules.specs.Moments.{dueBy, nextOf}
 use Rattle.rules.specs.Messages.{kind, timeOf, taken}
-use Rattle.rules.specs.Numbers.{rubbish, outOfRange, notPrimary, ownChecks, messageChecks, checks, tells, timeChecks, settleChecks, settles}
+use Rattle.rules.specs.Numbers.{rubbish, outOfRange, ownChecks, messageChecks, checks, tells, timeChecks, settleChecks, settles}
 use Rattle.rules.specs.declared.Message.{Message}
 
 -- a message that is accepted
@@ -19,7 +19,6 @@ pub record Told (m : Message) (h : Whole) : Type 0 where
   pub in-range : outOfRange (h .stock .end) m ≡ false
   pub not-back : clockOf (h .stock) ≤ timeOf m
   pub none-due : dueBy (timeOf m) (nextOf h) ≡ false
-  pub from-primary : notPrimary (h .stock .setup .primary) m ≡ false
   pub state-takes : taken (kind m) (stateOf (h .stock)) ≡ 0
   pub own-passes : first (ownChecks m (length (h .window)) (h .stock)) ≡ 0
 
@@ -37,7 +36,6 @@ told m h e =
       in-range = b .0;
       not-back = ltb-false _ _ (c .0);
       none-due = d .0;
-      from-primary = f .0;
       state-takes = g .0;
       own-passes = g .1;
     }

@@ -1,60 +1,37 @@
--- A moment begins a pause exactly when the limit state entered 15,000 before has lasted; and the bands, read off a story.
+-- A moment begins a pause exactly when the limit state entered 15,000 before has lasted.
 -- Assumes nothing.
 use Prim.Native.Nat.{ℕ, _+_, _≤_, _<_}
-use mathlib.Core.Bool.{true, false, true≢false}
+use mathlib.Core.Bool.{true}
 use mathlib.Core.List.{List, [], _∷_, _++_}
-use mathlib.Core.Logic.{_↔_, _⊎_, inl, inr}
+use mathlib.Core.Logic.{_↔_, _⊎_, inl, inr, ⊎-map}
 use mathlib.Core.Path.{_≡_, refl, sym, ap, _∙_, subst}
-use native.Mathlib.Decide.{ℕ-discrete}
 use native.Mathlib.Omega.{arith}
-use borrow.Author.Tests.{eqb-true, eq-eqb, ltb-true, ltb-false, le-leb, ne-eqb}
-use lib.Dec.{eqb, ltb, leb}
+use borrow.Author.Tests.{eqb-true, eq-eqb, ltb-true, ltb-false, le-leb}
+use lib.Dec.{ltb, leb}
 use lib.ListN.{take, drop}
-use Rattle.forms.specs.Choice.{if_then_else_, anyOf}
-use Rattle.forms.proofs.Choice.{if-arms, any-here, any-there}
-use Rattle.band.specs.Band.{percentOf, factorOf, bandsOf}
-use Rattle.band.specs.declared.Limits.{Limits}
-use Rattle.rules.specs.Stock.{Whole, Trading, Limit, Paused, Late, stateOf, clockOf, is, at-time, hold-ended, figuresOf}
-use Rattle.rules.specs.Quotes.{inForce, kTime, bandsIn}
-use Rattle.rules.specs.States.{begin-pause, shut}
-use Rattle.rules.specs.Moments.{mark-z, mark-w, mark-x, Row, _at_while_, momentTable, earliest, next, first-five, effect, come, nextOf, fire}
-use Rattle.rules.specs.Messages.{after}
+use Rattle.forms.proofs.Choice.{if-arms}
+use Rattle.forms.proofs.Decides.{not-among}
+use Rattle.rules.specs.Stock.{Whole, Limit, stateOf, clockOf, is, figuresOf}
+use Rattle.rules.specs.Moments.{mark-z, mark-w, mark-x, mark-c, Row, _at_while_, momentTable, earliest, next, nextOf, fire}
+use Rattle.rules.specs.Messages.{letter-P, letter-X, after}
 use Rattle.rules.specs.Numbers.{settles, fresh, notice}
 use Rattle.rules.specs.Machine.{Event, message, moment, dated, Lawful, becomes, left}
 use Rattle.rules.specs.Book.{machine, Story}
-use Rattle.rules.specs.Pauses.{before, inPause, PauseAt, LimitSince}
-use Rattle.rules.specs.Demands.{leaves, BandsAre, PausesBegin, LimitHolds}
+use Rattle.rules.specs.Changes.{IsNew, StartsPause}
+use Rattle.rules.specs.Pauses.{before, InPause, PauseAt, EntersLimit, LimitSince}
+use Rattle.rules.specs.Demands.{CanHappen, DatesAre, PausesBegin}
 use Rattle.rules.specs.declared.Setup.{Setup}
-use Rattle.rules.specs.declared.Stock.{Stock}
-use Rattle.rules.specs.declared.Figures.{Figures}
 use Rattle.rules.specs.declared.Moment.{Moment}
 use Rattle.rules.specs.declared.Notice.{Notice}
 use Rattle.rules.specs.declared.Message.{Message}
+use Rattle.rules.proofs.After.{After, closes, pauses as to-pause, enters, trades, stays, state-after, quiet}
+use Rattle.rules.proofs.Changed.{kept}
 use Rattle.rules.proofs.Earliest.{IsMoment, momentOf, Rows, First, head, tail, first-row, none-before}
+use Rattle.rules.proofs.Events.{rest-lawful, event-clock, event-forward, event-end}
 use Rattle.rules.proofs.Lawful.{machineLaws}
-use Rattle.rules.proofs.Events.{rest-lawful, event-kept, event-clock, event-forward, event-end, kept-left}
-use Rattle.rules.proofs.Kept.{Stands, look-stands, trading-stands, test-stands, five-stands, effect-by, kept}
-use Rattle.rules.proofs.Stays.{look-else, by-row, Ends, enters, keeps, ends, InLimit, limit-before, limit-since}
-
--- ------------------------------------------------------------------ only x begins a pause
-
--- in no pause of either kind
-abbrev Calm : Stock → Type 0
-Calm s = anyOf (is Paused s ∷ is Late s ∷ []) ≡ false
-
--- Waiting, Trading, Limit and Closed are none
-no-pause : anyOf (false ∷ false ∷ []) ≡ false
-unfolding anyOf if_then_else_
-no-pause = refl
-
-stands-calm : Stands Calm
-stands-calm = record { in-limit = λ s c. no-pause; referred = λ r s c. c; in-trading = λ r s c. no-pause }
-
-effect-calm : (mark : ℕ) (f : Figures) (s : Stock) → (mark ≡ mark-x → ⊥) → Calm s → Calm (effect mark f s)
-unfolding shut first-five
-effect-calm mark f s n c =
-    effect-by Calm mark f s (λ _. no-pause) (λ _. look-stands stands-calm s c) (λ e. absurd (n e)) (λ _. trading-stands stands-calm _ s c)
-    (λ _. no-pause) (λ _. test-stands stands-calm f s c) (λ _. five-stands stands-calm f s c) (test-stands stands-calm f (hold-ended s) c)
+use Rattle.rules.proofs.MomentRows.{by-row}
+use Rattle.rules.proofs.PausedSince.{no-pause, paused-since}
+use Rattle.rules.proofs.Stays.{InLimit, limit-before, limit-since}
 
 -- ------------------------------------------------------------------ the moments that come in Limit
 
@@ -121,33 +98,65 @@ next-in-limit h l =
 
 -- ------------------------------------------------------------------ a moment in Limit
 
--- the moment that begins a pause
-begins : (h : Whole) (t : ℕ) → settles t h ≡ 0 → inPause h ≡ false → inPause (fire h) ≡ true
-    → (stateOf (h .stock) ≡ Limit) × (nextOf h .time ≡ h .stock .course .entry + 15_000) × (nextOf h .time < h .stock .end)
-unfolding fire come inPause
-begins h t e c b =
-    let m = machineLaws .its-time t h e .0 in
-    let x : nextOf h .mark ≡ mark-x = go (ℕ-discrete (nextOf h .mark) mark-x) in
-    (at-x h m x .0, at-x h m x .1, x-open h m x)
-  where
-    go : Dec (nextOf h .mark ≡ mark-x) → nextOf h .mark ≡ mark-x
-    go (yes x) = x
-    go (no n) = absurd (true≢false (sym b ∙ effect-calm (nextOf h .mark) _ (at-time (nextOf h .time) (h .stock)) n c))
+module _ (h : Whole) (n : Notice) (v : CanHappen h (moment n)) where
+  is-next : n .moment ≡ nextOf h
+  unfolding notice
+  is-next = ap (λ n. n .moment) (v .1)
 
--- w leaves a limit state as it is
-w-stays : (u : ℕ) (h : Whole) → nextOf h .mark ≡ mark-w → InLimit u h → InLimit u (fire h)
-unfolding fire come effect if_then_else_
-w-stays u h e l = rw (e, look-else (at-time (nextOf h .time) (h .stock)) (omega arith)) l
+  is-moment : IsMoment (nextOf h)
+  is-moment = machineLaws .its-time (v .0 .0) h (v .0 .1) .0
 
--- x begins a pause
-pause-begun : (s : Stock) → anyOf (is Paused (begin-pause s) ∷ is Late (begin-pause s) ∷ []) ≡ true
-unfolding begin-pause
-pause-begun s = if-arms (λ state. anyOf (eqb state Paused ∷ eqb state Late ∷ []) ≡ true) _
-    (λ _. any-there _ _ (any-here _ _ refl)) (λ _. any-here _ _ refl)
+  -- no moment has P's letter
+  not-P : ¬ (nextOf h .mark ≡ letter-P)
+  unfolding momentTable
+  not-P = by-row h is-moment (λ m. ¬ (m .mark ≡ letter-P)) (omega arith)
 
-x-pauses : (h : Whole) → nextOf h .mark ≡ mark-x → stateOf (h .stock) ≡ Limit → (inPause h ≡ false) × (inPause (fire h) ≡ true)
-unfolding fire come effect inPause if_then_else_
-x-pauses h e l = (rw l no-pause, rw e (pause-begun _))
+  -- only x begins a pause
+  begins : ¬ InPause h → InPause (fire h)
+      → (stateOf (h .stock) ≡ Limit) × (nextOf h .time ≡ h .stock .course .entry + 15_000) × (nextOf h .time < h .stock .end)
+  begins c b =
+      let x : nextOf h .mark ≡ mark-x = go (state-after h (moment n) v) in
+      (at-x h is-moment x .0, at-x h is-moment x .1, x-open h is-moment x)
+    where
+      mark : n .moment .mark ≡ nextOf h .mark
+      mark = ap (λ m. m .mark) is-next
+
+      which : StartsPause (moment n) → nextOf h .mark ≡ mark-x
+      which (inl p) = absurd (not-P (sym mark ∙ p))
+      which (inr (inl x)) = sym mark ∙ x
+      which (inr (inr z)) = absurd z
+
+      go : After h (moment n) → nextOf h .mark ≡ mark-x
+      go (closes k q) = absurd (no-pause (fire h) 5 q (λ z. omega arith) (λ z. omega arith) b)
+      go (to-pause k q) = which k
+      go (enters k x q) = absurd (no-pause (fire h) 2 q (λ z. omega arith) (λ z. omega arith) b)
+      go (trades k x y q) = absurd (no-pause (fire h) 1 q (λ z. omega arith) (λ z. omega arith) b)
+      go (stays d k x y q) = absurd (c (⊎-map (λ p. sym q ∙ p) (λ p. sym q ∙ p) b))
+
+  -- w leaves a limit state as it is
+  w-stays : (u : ℕ) → nextOf h .mark ≡ mark-w → InLimit u h → InLimit u (fire h)
+  w-stays u e l =
+      let still = quiet h n v (λ t. omega (arith, l .0)) mark-w (ap (λ m. m .mark) is-next ∙ e) refl refl in
+      (still .1 ∙ l .0, entered (kept h (moment n) v .1 .1 .1 .0) (λ k. still .0 (k .0)))
+    where
+      entered : IsNew (EntersLimit h (moment n)) (fire h .stock .course .entry) (dated machine (moment n)) (h .stock .course .entry)
+          → ¬ EntersLimit h (moment n) → fire h .stock .course .entry ≡ u
+      entered (inl k) o = absurd (o (k .0))
+      entered (inr k) o = k .1 ∙ l .1
+
+  -- x begins a pause
+  x-pauses : nextOf h .mark ≡ mark-x → stateOf (h .stock) ≡ Limit → ¬ InPause h × InPause (fire h)
+  x-pauses e l = (no-pause h 2 l (λ z. omega arith) (λ z. omega arith), go (state-after h (moment n) v))
+    where
+      x : n .moment .mark ≡ mark-x
+      x = ap (λ m. m .mark) is-next ∙ e
+
+      go : After h (moment n) → InPause (fire h)
+      go (closes k q) = absurd (not-among (letter-X ∷ mark-z ∷ mark-c ∷ []) _ mark-x x refl k)
+      go (to-pause k q) = q
+      go (enters k _ q) = absurd (k (inr (inl x)))
+      go (trades k _ _ q) = absurd (k (inr (inl x)))
+      go (stays _ k _ _ q) = absurd (k (inr (inl x)))
 
 -- ------------------------------------------------------------------ the story before a time
 
@@ -196,7 +205,7 @@ only-then h (moment n ∷ es) t v (inr p) =
     (r .0, r .1, back h (moment n) es t (r .0) v (r .1) (r .2), rw (event-end h (moment n) es v) at (r .3))
 only-then h (moment n ∷ es) t v (inl p) =
     let d : nextOf h .time ≡ t = ap (λ n. n .moment .time) (sym (v .1)) ∙ p .0 in
-    let b = begins h (v .0 .0) (v .0 .1) (p .1) (p .2) in
+    let b = begins h n (v .0, v .1, tt) (p .1 .0) (p .1 .1) in
     let u = h .stock .course .entry in (
       u,
       sym d ∙ b .1,
@@ -236,8 +245,8 @@ whenever h (moment n ∷ es) T t u v q k p o =
         go : DownTo (Above h) (x-row h) (nextOf h) → PauseAt t h (moment n ∷ es)
         go (inl (inl e)) = absurd (omega (arith, at-t))
         go (inl (inr e)) =
-            inr (rec (rw (before-clock t (fire h) es (v .2) (omega (arith, event-clock h (moment n) es v))) (w-stays u h e l)))
-        go (inr (inl e)) = let x = x-pauses h (ap (λ m. m .mark) e) (l .0) in inl (date ∙ at-t, x .0, x .1)
+            inr (rec (rw (before-clock t (fire h) es (v .2) (omega (arith, event-clock h (moment n) es v))) (w-stays h n (v .0, v .1, tt) u e l)))
+        go (inr (inl e)) = let x = x-pauses h n (v .0, v .1, tt) (ap (λ m. m .mark) e) (l .0) in inl (date ∙ at-t, (x .0, x .1))
         go (inr (inr e)) = absurd (omega (arith, at-t))
 
 -- ------------------------------------------------------------------ both
@@ -262,59 +271,11 @@ pauses end u es a time q t k = (only, always)
     always : ((entered : ℕ) × (t ≡ entered + 15_000) × LimitSince entered h (before t es) × (t < end)) → PauseAt t h es
     always r = whenever h es time t (r .0) (a .lawful) q k (r .1) (r .3) (since (r .0) .1 (r .2))
 
--- ------------------------------------------------------------------ the bands
+-- ------------------------------------------------------------------ the kept dates
 
--- of a clock, a setup and an end
-abbrev bandsAt : Stock → ℕ → ℕ × Setup × ℕ → Limits
-bandsAt s time k = bandsOf (s .reference .price) 1 (percentOf (k .1 .tier) (k .1 .close)) (factorOf (k .1 .leverage) time (k .2))
-
-trading-bands : (s : Stock) → stateOf s ≡ Trading → bandsIn s ≡ bandsAt s (clockOf s) (kept s)
-unfolding bandsIn inForce kTime anyOf if_then_else_
-trading-bands s e = rw e
-
-limit-bands : (s : Stock) → stateOf s ≡ Limit → bandsIn s ≡ bandsAt s (s .course .entry) (kept s)
-unfolding bandsIn inForce kTime anyOf if_then_else_
-limit-bands s e = rw e
-
-no-bands : (s : Stock) → (stateOf s ≡ Trading → ⊥) → (stateOf s ≡ Limit → ⊥) → bandsIn s ≡ record { lower = 0; upper = 0 }
-unfolding bandsIn inForce anyOf if_then_else_
-no-bands s t l = rw (ne-eqb (stateOf s) Trading t, ne-eqb (stateOf s) Limit l)
-
-pub bands : BandsAre
+pub dates : DatesAre
 unfolding fresh
-bands end u es a =
-    let h = leaves end u es in
-    let k = kept-left (fresh end u) es (a .lawful) in (
-      (λ e. trading-bands (h .stock) e ∙ ap (λ k. bandsAt (h .stock) (k .0) k) k),
-      (λ e. (
-        h .stock .course .entry,
-        limit-since (h .stock .course .entry) (fresh end u) es (fresh-out end u) (a .lawful) .0 (e, refl),
-        limit-bands (h .stock) e ∙ ap (bandsAt (h .stock) (h .stock .course .entry)) k,
-      )),
-      no-bands (h .stock),
-    )
-
--- ------------------------------------------------------------------ within a stay
-
-pub limit-holds : LimitHolds
-limit-holds h e v l n k = go (ends h e [] v k)
-  where
-    s : Stock
-    s = h .stock
-
-    s′ : Stock
-    s′ = becomes machine h e .stock
-
-    go : Ends e h
-        → (s′ .reference .price ≡ s .reference .price) × (s′ .reference .start ≡ s .reference .start) × (bandsIn s′ ≡ bandsIn s)
-    go (enters (inl o) p) = absurd (o l)
-    go (enters (inr o) p) = absurd (n o)
-    go (keeps i o p) =
-        let kept-by = event-kept h e [] v in
-        let setup : s′ .setup ≡ s .setup = ap (λ k. k .1) kept-by in
-        let end : s′ .end ≡ s .end = ap (λ k. k .2) kept-by in
-        let before = limit-bands s l in
-        let now = limit-bands s′ k in
-        let price = p .1 in
-        let entered = p .0 in
-        (p .1, p .2, cc)
+dates end u es a = (
+  (λ l. limit-since _ (fresh end u) es (fresh-out end u) (a .lawful) .0 (l, refl)),
+  (λ p. paused-since (fresh end u) es (no-pause (fresh end u) 0 refl (λ z. omega arith) (λ z. omega arith)) (a .lawful) p),
+)

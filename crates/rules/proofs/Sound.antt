@@ -1,47 +1,41 @@
--- Whatever has happened since a setup in range, a stock is not rubbish; so settling does a moment or finds none.
+-- Whatever has happened since a setup in range, a stock is not rubbish.
 -- Assumes nothing.
-use Prim.Native.Nat.{ℕ, zero, suc, _+_, _-_, _*_, _≤_, _<_}
-use mathlib.Core.Bool.{false, true≢false, not-eq-not}
+use Prim.Native.Nat.{ℕ, zero, suc, _+_, _*_, _≤_, _<_}
 use mathlib.Core.List.{List, [], _∷_, _++_, foldl}
-use mathlib.Core.Logic.{_⊎_, inl, inr}
-use mathlib.Core.Path.{_≡_, refl, sym, ap, _∙_, subst}
+use mathlib.Core.Logic.{inl, inr, ⊎-elim}
+use mathlib.Core.Path.{_≡_, ap}
 use native.Mathlib.Nat.{le-refl}
 use native.Mathlib.Omega.{arith}
-use borrow.Author.Tests.{leb-true, leb-false, ltb-true, ltb-false, eqb-true, eqb-false, le-ltb, ne-eqb, not-true}
-use lib.Dec.{leb, eqb}
+use borrow.Author.Tests.{eqb-true, eqb-false, not-true}
 use lib.ListN.{length, length-append, set, replicate}
-use Rattle.forms.specs.Choice.{if_then_else_, allOf}
-use Rattle.forms.specs.Checks.{first}
-use Rattle.forms.proofs.Choice.{if-arms, all-head, all-tail, any-head, any-tail, any-not, any-empty}
-use Rattle.forms.proofs.Checks.{passed}
+use Rattle.forms.specs.Words.{Some}
+use Rattle.forms.proofs.Choice.{if-arms, all-head, all-tail}
+use Rattle.forms.proofs.Decides.{past}
 use Rattle.band.proofs.Laws.{mean-least, mean-most}
 use Rattle.rules.specs.Stock.{Trade, Whole, Trading, Limit, Paused, Late, Closed, stateOf, clockOf, at-time, enter-pause, not-early, refer-to, total, figuresOf, noTrades, meanIn, staying}
 use Rattle.rules.specs.States.{look, begin-trading, leave, test, begin-pause, shut}
 use Rattle.rules.specs.Moments.{first-five, effect, windowAfter, come, nextOf, fire}
 use Rattle.rules.specs.Messages.{timeOf, tradeRules, quoteRules, with-quote, does, after}
-use Rattle.rules.specs.Numbers.{notPrice, badEnd, badSetup, badTimes, orNotSide, badQuotes, badReference, badTrade, see, badTrades, badStock, rubbish, outOfRange, ownChecks, tells, timeChecks, settleChecks, settles, fresh}
+use Rattle.rules.specs.Numbers.{tells, settles, fresh}
 use Rattle.rules.specs.Machine.{Every, message, moment, Lawful, left}
 use Rattle.rules.specs.Book.{machine, Story}
-use Rattle.rules.specs.Demands.{leaves, NeverRubbish, Settling}
+use Rattle.rules.specs.Words.{IsPrice, IsSide, IsEnd, IsSetup, BadTime, BadReference, BadTrade, BadStock, Rubbish}
+use Rattle.rules.specs.Demands.{leaves, NeverRubbish}
 use Rattle.rules.specs.declared.Setup.{Setup}
 use Rattle.rules.specs.declared.Stock.{Stock}
 use Rattle.rules.specs.declared.Figures.{Figures}
 use Rattle.rules.specs.declared.Moment.{Moment}
 use Rattle.rules.specs.declared.Message.{Message}
 use Rattle.rules.specs.declared.Message.the-variants.{Trade as T, Quote as Q, Opening as O, Pause as P, Reopening as R, Closing as X}
-use Rattle.rules.proofs.Events.{kept-left}
 use Rattle.rules.proofs.Kept.{kept, after-kept, come-kept, effect-by}
 use Rattle.rules.proofs.Lawful.{when-due, next-not-past}
+use Rattle.rules.proofs.Coming.{past-is}
+use Rattle.rules.proofs.Numbers.{Taken, taken-words}
 use Rattle.rules.proofs.Passed.{told, settled}
+use Rattle.rules.proofs.Ranges.{in-price, in-side}
 use Rattle.rules.proofs.Timely.{Timely, Comes, comes, Takes, takes, timely-left, fresh-timely, none-past}
 
 -- ------------------------------------------------------------------ a stock in range
-
-abbrev pub IsSide : ℕ → Type 0
-IsSide price = price ≤ 999_999_999
-
-abbrev pub IsPrice : ℕ → Type 0
-IsPrice price = (1 ≤ price) × IsSide price
 
 -- the trades are of a price, in order, and from `last` to the clock
 abbrev pub InOrder : ℕ → ℕ → List Trade → Type 0
@@ -66,8 +60,8 @@ pub record SaneStock (s : Stock) : Type 0 where
   pub sides : Every IsSide (s .quotes .bids) × Every IsSide (s .quotes .offers)
 
 pub record Sane (h : Whole) : Type 0 where
-  pub setup-ok : badSetup (h .stock .setup) ≡ false
-  pub end-ok : badEnd (h .stock .end) ≡ false
+  pub setup-ok : IsSetup (h .stock .setup)
+  pub end-ok : IsEnd (h .stock .end)
   pub stock : SaneStock (h .stock)
   pub window : SaneWindow (clockOf (h .stock)) (h .window)
 
@@ -218,21 +212,19 @@ Fits (P time participant) w = Unit {0}
 Fits (R time participant price) w = IsPrice price
 Fits (X time participant price) w = Unit {0}
 
-pub is-price : (price : ℕ) → notPrice price ≡ false → IsPrice price
-unfolding notPrice
-is-price price e =
-    let z = eqb-false price 0 (any-head _ _ e) in
-    (omega arith, ltb-false 999_999_999 price (any-head _ _ (any-tail _ _ e)))
-
-fits : (m : Message) (h : Whole) → outOfRange (h .stock .end) m ≡ false → first (ownChecks m (length (h .window)) (h .stock)) ≡ 0 → Fits m (h .window)
-unfolding outOfRange ownChecks
-fits (T time price) h r o = (is-price price (any-head _ _ r), leb-false 512 (length (h .window)) (passed (ownChecks (T time price) (length (h .window)) (h .stock)) tt o .1 .0))
-fits (Q time participant bid offer) h r o =
-    (ltb-false _ bid (any-head _ _ (any-tail _ _ r)), ltb-false _ offer (any-head _ _ (any-tail _ _ (any-tail _ _ r))))
-fits (O time participant price) h r o = is-price price (any-head _ _ (any-tail _ _ r))
-fits (P time participant) h r o = tt
-fits (R time participant price) h r o = is-price price (any-head _ _ (any-tail _ _ r))
-fits (X time participant price) h r o = tt
+fits : (m : Message) (h : Whole) → Taken m h → Fits m (h .window)
+fits (T time price) h k =
+    let a = past 7 0 _ _ (λ z. omega arith) (k .own-passed) in
+    let b = past 11 0 _ _ (λ z. omega arith) (a .1) in
+    let c = past 12 0 _ _ (λ z. omega arith) (b .1) in
+    let d = past 13 0 _ _ (λ z. omega arith) (c .1) .0 in
+    (in-price price (λ n. k .in-range (inl n)), omega arith)
+fits (Q time participant bid offer) h k =
+    (in-side bid (λ n. k .in-range (inr (inl n))), in-side offer (λ n. k .in-range (inr (inr (inl n)))))
+fits (O time participant price) h k = in-price price (λ n. k .in-range (inr (inl n)))
+fits (P time participant) h k = tt
+fits (R time participant price) h k = in-price price (λ n. k .in-range (inr (inl n)))
+fits (X time participant price) h k = tt
 
 -- the clock goes from c to the message's time
 window-message : (m : Message) (c : ℕ) (h : Whole) → c ≤ timeOf m → Fits m (h .window) → SaneWindow c (h .window)
@@ -280,7 +272,7 @@ unfolding after
 message-sane m h i e =
     let p = told m h e in
     let g : Whole = record { stock = at-time (timeOf m) (h .stock); window = h .window } in
-    let seen = fits m h (p .in-range) (p .own-passes) in
+    let seen = fits m h (taken-words m h e) in
     let w = window-message m _ g (p .not-back) seen (i .window) in
     carried h (after m h) (timeOf m) i (after-kept m h)
     (does-sane m g (takes m _ (p .state-takes)) seen (mean-priced _ _ w) (time-sane _ _ (i .stock) (p .not-back))) w
@@ -292,7 +284,7 @@ sane-left [] h i v = i
 sane-left (message m ∷ es) h i v = sane-left es (after m h) (message-sane m h i (v .0)) (v .1)
 sane-left (moment n ∷ es) h i v = sane-left es (fire h) (moment-sane (v .0 .0) h i (v .0 .1)) (v .2)
 
-pub fresh-sane : (end : ℕ) (u : Setup) → badEnd end ≡ false → badSetup u ≡ false → Sane (fresh end u)
+pub fresh-sane : (end : ℕ) (u : Setup) → IsEnd end → IsSetup u → Sane (fresh end u)
 unfolding fresh
 fresh-sane end u e b = record {
   setup-ok = b;
@@ -303,76 +295,56 @@ fresh-sane end u e b = record {
 
 -- ------------------------------------------------------------------ what is in range is not rubbish
 
-trade-clean : (c last : ℕ) (t : Trade) → IsPrice (t .price) → last ≤ t .at → t .at ≤ c → badTrade c last t ≡ false
-unfolding badTrade notPrice
-trade-clean c last t p l k =
-    any-not _ _ (any-not _ _ (ne-eqb (t .price) 0 (λ z. omega arith)) (any-not _ _ (le-ltb _ _ (p .1)) any-empty))
-    (any-not _ _ (le-ltb c (t .at) k) (any-not _ _ (le-ltb (t .at) last l) any-empty))
+trades-clean : (c ahead : ℕ) (w : List Trade) → InOrder ahead c w → ¬ BadTrade c ahead w
+trades-clean c ahead [] o b = b
+trades-clean c ahead (t ∷ w) o (inl (inl n)) = n (o .0)
+trades-clean c ahead (t ∷ w) o (inl (inr (inl l))) = omega (arith, o .2)
+trades-clean c ahead (t ∷ w) o (inl (inr (inr l))) = omega (arith, o .1)
+trades-clean c ahead (t ∷ w) o (inr b) = trades-clean c (t .at) w (o .3) b
 
-trades-clean : (c last : ℕ) (w : List Trade) → InOrder last c w → foldl (see c) (record { bad = false; last = last }) w .bad ≡ false
-unfolding see if_then_else_
-trades-clean c last [] o = refl
-trades-clean c last (t ∷ w) o =
-    subst (λ b. foldl (see c) (record { bad = b; last = t .at }) w .bad ≡ false) (sym (trade-clean c last t (o .0) (o .1) (o .2)))
-    (trades-clean c (t .at) w (o .3))
+sides-clean : (l : List ℕ) → Every IsSide l → ¬ Some (λ side. ¬ IsSide side) l
+sides-clean [] a b = b
+sides-clean (side ∷ l) a (inl n) = n (a .0)
+sides-clean (side ∷ l) a (inr b) = sides-clean l (a .1) b
 
-sides-clean : (l : List ℕ) → Every IsSide l → foldl orNotSide false l ≡ false
-unfolding orNotSide if_then_else_
-sides-clean [] a = refl
-sides-clean (price ∷ l) a = rw (le-ltb 999_999_999 price (a .0)) (sides-clean l (a .1))
+stock-clean : (h : Whole) → Sane h → Timely h → ¬ BadStock (h .stock)
+stock-clean h i j = go
+  where
+    s : Stock
+    s = h .stock
 
-quotes-clean : (s : Stock) → SaneStock s → badQuotes (s .quotes) ≡ false
-unfolding badQuotes
-quotes-clean s i = rw (sides-clean (s .quotes .bids) (i .sides .0)) (sides-clean (s .quotes .offers) (i .sides .1))
+    r : Ranges s
+    r = i .stock .ranges
 
-times-clean : (h : Whole) → Sane h → Timely h → badTimes (h .stock) ≡ false
-unfolding badTimes
-times-clean h i j =
-    let last = h .stock .end + 300_000 in
-    let clock : clockOf (h .stock) ≤ last = j .by-end in
-    let start : h .stock .reference .start ≤ last = omega arith in
-    let entry : h .stock .course .entry ≤ last = omega arith in
-    let pause : h .stock .course .pause ≤ last = omega arith in
-    search (any-not, any-empty, le-ltb)
+    last : clockOf s ≤ s .end + 300_000
+    last = j .by-end
 
-reference-clean : (s : Stock) → SaneStock s → badReference s ≡ false
-unfolding badReference
-reference-clean s i = any-not _ _ (le-ltb _ _ (i .ranges .price-by)) (any-not _ _ (not-eq-not .0 (λ a.
-    let none : s .reference .price ≡ 0 = eqb-true _ 0 (all-head _ _ a) in
-    let from : 1 ≤ stateOf s = leb-true 1 _ (all-head _ _ (all-tail _ _ a)) in
-    let to : stateOf s ≤ Late = leb-true _ 4 (all-head _ _ (all-tail _ _ (all-tail _ _ a))) in
-    omega (arith, i .priced from to))) any-empty)
+    times : ¬ BadTime s
+    times (inl n) = n last
+    times (inr (inl n)) = n (omega (arith, last, r .start-by))
+    times (inr (inr (inl n))) = n (omega (arith, last, r .entry-by))
+    times (inr (inr (inr n))) = n (omega (arith, last, r .pause-by))
 
-pub clean : (h : Whole) → Sane h → Timely h → rubbish h ≡ false
-unfolding rubbish badStock badTrades
-clean h i j =
-    let s = h .stock in
-    let state = le-ltb 5 (stateOf s) (i .stock .ranges .state-by) in
-    let pause : allOf (eqb (stateOf s) Paused ∷ leb (s .end - 600_000) (s .course .pause) ∷ []) ≡ false = not-eq-not .0 (λ a.
-    let late : s .end - 600_000 ≤ s .course .pause = leb-true _ _ (all-head _ _ (all-tail _ _ a)) in
-    omega (arith, j .p-by-end (eqb-true _ _ (all-head _ _ a)))) in
-    let count = le-ltb 512 (length (h .window)) (i .window .count) in
-    let stock = any-not _ _ state (any-not _ _ (i .setup-ok) (any-not _ _ (i .end-ok) (any-not _ _ (times-clean h i j)
-    (any-not _ _ (quotes-clean s (i .stock)) (any-not _ _ (reference-clean s (i .stock)) (any-not _ _ pause any-empty)))))) in
-    any-not _ _ stock (any-not _ _ count (any-not _ _ (trades-clean _ 0 (h .window) (i .window .in-order)) (any-not _ _ (none-past h j) any-empty)))
+    reference : ¬ BadReference s
+    reference (inl n) = n (r .price-by)
+    reference (inr k) = omega (arith, k .0, i .stock .priced (k .1 .0) (k .1 .1))
 
--- ------------------------------------------------------------------ the demands
+    go : ¬ BadStock s
+    go (inl l) = omega (arith, r .state-by)
+    go (inr (inl n)) = n (i .setup-ok)
+    go (inr (inr (inl n))) = n (i .end-ok)
+    go (inr (inr (inr (inl b)))) = times b
+    go (inr (inr (inr (inr (inl b))))) = ⊎-elim (sides-clean (s .quotes .bids) (i .stock .sides .0)) (sides-clean (s .quotes .offers) (i .stock .sides .1)) b
+    go (inr (inr (inr (inr (inr (inl b)))))) = reference b
+    go (inr (inr (inr (inr (inr (inr k)))))) = omega (arith, k .1, j .p-by-end (k .0))
+
+clean : (h : Whole) → Sane h → Timely h → ¬ Rubbish h
+clean h i j (inl b) = stock-clean h i j b
+clean h i j (inr (inl l)) = omega (arith, i .window .count)
+clean h i j (inr (inr (inl b))) = trades-clean _ 0 (h .window) (i .window .in-order) b
+clean h i j (inr (inr (inr p))) = past-is _ h .fails (none-past h j) p
 
 pub never-rubbish : NeverRubbish
 never-rubbish end u es a =
     clean (leaves end u es) (sane-left es (fresh end u) (fresh-sane end u (a .end-ok) (a .setup-ok)) (a .lawful))
     (timely-left es (fresh end u) (fresh-timely end u) (a .lawful))
-
--- what is not rubbish is settled to a time in range with 0 or 14
-settles-to : (time : ℕ) (h : Whole) → rubbish h ≡ false → time ≤ h .stock .end + 300_000 → (settles time h ≡ 0) ⊎ (settles time h ≡ 14)
-unfolding settles settleChecks timeChecks first
-settles-to time h r l =
-    let Done : ℕ → Type 0 = λ n. (n ≡ 0) ⊎ (n ≡ 14) in
-    if-arms Done _ (λ e. absurd (true≢false (sym e ∙ r))) (λ _.
-    if-arms Done _ (λ e. let q = ltb-true _ time e in absurd (omega arith)) (λ _.
-    if-arms Done _ (λ _. inr refl) (λ _. inl refl)))
-
-pub settling : Settling
-unfolding fresh
-settling end u es a time l =
-    settles-to time (leaves end u es) (never-rubbish end u es a) (omega (arith, ap (λ k. k .2) (kept-left (fresh end u) es (a .lawful))))

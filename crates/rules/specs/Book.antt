@@ -10,7 +10,7 @@ use Rattle.forms.specs.Checks.{first}
 use Rattle.rules.specs.Stock.{Whole, clockOf}
 use Rattle.rules.specs.Moments.{no-moment, nextOf, fire}
 use Rattle.rules.specs.Messages.{timeOf, after}
-use Rattle.rules.specs.Numbers.{callChecks, tells, settles, zeros, notice, tellAnswer, settleAnswer, fresh, setsUp}
+use Rattle.rules.specs.Numbers.{callChecks, tells, settles, zeros, notice, tellAnswer, settleAnswer, readAnswer, fresh, setsUp}
 use Rattle.rules.specs.Machine.{Machine, Event, of, Calls, stock, run, log, SettledTo}
 use Rattle.rules.specs.declared.Setup.{Setup}
 use Rattle.rules.specs.declared.Answer.{Answer}
@@ -80,3 +80,9 @@ module _ (end : ℕ) where
   bookSettles b times prices i time =
       let number = first (callChecks (length b) times prices i) in
       if eqb number 0 then settleAnswer time (stock machine blank b i) else record { answer = zeros number; moment = no-moment }
+
+  -- reading, likewise
+  unfoldable pub bookReads : List Whole → (times prices i : ℕ) → Answer
+  bookReads b times prices i =
+      let number = first (callChecks (length b) times prices i) in
+      if eqb number 0 then readAnswer (stock machine blank b i) else zeros number

@@ -1,42 +1,54 @@
 -- What is demanded of the rules. Open this file first: it collects the statements, and proofs/Demands.antt proves the record.
 --
--- `Allowed end u es` says that es is a story of one stock: the messages that were accepted and the moments that were settled since a
--- setup in range, in a row that the rules allow. `leaves end u es` is the stock that it leaves. The first demand ties both to a book.
+-- `Words` and `Changes` say document 01 in words; the statements here say that the rules compute it. A story is what happened to one
+-- stock since its setup: the messages that were accepted and the moments that were settled. `by-story` ties stories to a book.
+--
+-- Key
+--   (x : A) → P             for every x, P
+--   (x : A) × P             there is an x with P
+--   P → Q, P ↔ Q            if P then Q, P exactly if Q
+--   P × Q, P and Q          both
+--   P ⊎ Q, P or Q, ¬ P      one of them, not P
+--   a ≡ b, a ∷ b ∷ []       a equals b, a list of a and b
+--   Gives table n           n is the number of the table's first row whose words hold, and 0 where no row's do
+--   tells m h               the number that the stock h answers the message m with
+--   settles time h, reads h the same of settling to a time, and of reading
+--   after m h, fire h       the stock after an accepted message, and after its earliest moment
+--   becomes machine h e     the stock after an event e, which is a message or a moment
+--   Allowed end u es        es is a story of a stock with setup u and session's end `end`, in a row that the rules allow
+--   leaves end u es         the stock that it leaves
 -- Assumes nothing.
 use Prim.Native.Nat.{ℕ, _+_, _≤_, _<_}
-use mathlib.Core.Bool.{true, false}
+use mathlib.Core.Bool.{true}
 use mathlib.Core.List.{List, [], _∷_, _++_}
 use mathlib.Core.Logic.{_↔_, _⊎_}
 use mathlib.Core.Path.{_≡_}
-use lib.Dec.{eqb}
-use lib.ListN.{length, getD}
-use Rattle.forms.specs.Choice.{if_then_else_}
+use lib.ListN.{length, getD, replicate}
 use Rattle.forms.specs.Tables.{every}
-use Rattle.band.specs.Band.{percentOf, factorOf, bandsOf}
+use Rattle.forms.specs.Words.{_or_, _and_, IsOneOf, Gives}
 use Rattle.band.specs.declared.Limits.{Limits}
-use Rattle.rules.specs.Stock.{Whole, Trading, Limit, Paused, Late, Closed, stateOf, clockOf, at-time, figuresOf}
-use Rattle.rules.specs.Quotes.{inForce, bandsIn, bestOf, atLimit, crossed}
-use Rattle.rules.specs.Moments.{mark-p, mark-f, no-moment, momentTable, dueBy, nextOf, fire}
-use Rattle.rules.specs.Messages.{taken, with-quote}
-use Rattle.rules.specs.Numbers.{badEnd, badSetup, badShape, rubbish, tells, settles, answer, afterSettling, notice, settleAnswer, fresh}
-use Rattle.rules.specs.Machine.{Machine, MachineLaws, Alike, Call, tell, settle, On, Event, message, moment, messages, notices, dated, Lawful, becomes, left, Calls, stock, numberIn, stepIn}
-use Rattle.rules.specs.Book.{machine, Story, Accepted, noSetup, blank, now, story, Settled, bookTells, bookSettles}
-use Rattle.rules.specs.Readings.{joined, recent, lastQuote, IsOneOf, IsBest, Starts, Refers, Referred, StartedBy, inWords, Acceptable, letterOf, leadsTo, markOf, ComesFirst, IsDated, lastDate, EndsLimit, countOf, MomentsOnly}
+use Rattle.rules.specs.Stock.{Trade, Whole, Waiting, Trading, Limit, Paused, Late, Closed, stateOf, clockOf, figuresOf, meanIn}
+use Rattle.rules.specs.Moments.{mark-p, mark-f, no-moment, fire}
+use Rattle.rules.specs.Messages.{after}
+use Rattle.rules.specs.Numbers.{tells, settles, reads, setsUp, afterTelling, afterSettling, notice, tellAnswer, settleAnswer, readAnswer, setupAnswer, fresh}
+use Rattle.rules.specs.Machine.{Machine, MachineLaws, Alike, Call, tell, settle, On, Event, message, moment, messages, notices, Lawful, becomes, left, Calls, stock, numberIn, stepIn}
+use Rattle.rules.specs.Book.{machine, Story, Accepted, noSetup, blank, now, story, Settled, bookTells, bookSettles, bookReads}
+use Rattle.rules.specs.Words.{IsShape, IsEnd, IsSetup, IsMean, Bands, AtBand, Crossing, moments, IsFirst, Rubbish, refusals, settleRefusals, readRefusals, bookRefusals, setupRefusals, ShowsNothing, Shows}
+use Rattle.rules.specs.Changes.{recent, TradesAfter, Quoted, QuotesAfter, ReferenceAfter, stateAfter, KeptAfter}
+use Rattle.rules.specs.Readings.{joined, lastQuote, NoneStarted, StartedBy, lastDate, countOf, MomentsOnly}
 use Rattle.rules.specs.Pauses.{before, PauseAt, LimitSince, PausedSince}
 use Rattle.rules.specs.Examples.{right, byHand}
 use Rattle.rules.specs.Days.{asPrinted, days}
 use Rattle.rules.specs.Edges.{asAnswered, edges}
 use Rattle.rules.specs.declared.Setup.{Setup}
-use Rattle.rules.specs.declared.Stock.{Stock}
-use Rattle.rules.specs.declared.Answer.{Answer}
 use Rattle.rules.specs.declared.Notice.{Notice}
 use Rattle.rules.specs.declared.Message.{Message}
-use Rattle.rules.specs.declared.Message.the-variants.{Trade as T, Quote as Q, Reopening as R}
+use Rattle.rules.specs.declared.Message.the-variants.{Trade as T, Quote as Q, Opening as O, Pause as P, Reopening as R, Closing as X}
 
 -- A story of a stock whose setup and session's end are in range, in a row that the rules allow.
 pub record Allowed (end : ℕ) (u : Setup) (es : Story) : Type 0 where
-  pub end-ok : badEnd end ≡ false
-  pub setup-ok : badSetup u ≡ false
+  pub end-ok : IsEnd end
+  pub setup-ok : IsSetup u
   pub lawful : Lawful machine (fresh end u) es
 
 -- The stock that it leaves.
@@ -47,7 +59,91 @@ leaves end u es = left machine (fresh end u) es
 abbrev pub CanHappen : Whole → Event Message Notice → Type 0
 CanHappen h e = Lawful machine h (e ∷ [])
 
+-- ---------------------------------------------------------------- numbers
+
+-- A call on a stock is answered n exactly where n's words hold and no earlier number's do.
+abbrev pub NumbersAre : Type 0
+NumbersAre = (h : Whole) (n : ℕ)
+    → ((m : Message) → (tells m h ≡ n) ↔ Gives (refusals m h) n)
+    × ((time : ℕ) → (settles time h ≡ n) ↔ Gives (settleRefusals time h) n)
+    × ((reads h ≡ n) ↔ Gives (readRefusals h) n)
+
+-- So is a call on a book, the shape and the number of the stock first; a book of the right shape gives what the machine's stocks give.
+abbrev pub BookNumbersAre : Type 0
+BookNumbersAre = (end : ℕ) (b : List Whole) (times prices i n : ℕ)
+    → let h = stock machine (blank end) b i in
+    ((m : Message) → (bookTells end b times prices i m .number ≡ n) ↔ Gives (bookRefusals (length b) times prices i (refusals m h)) n)
+    × ((time : ℕ) → (bookSettles end b times prices i time .answer .number ≡ n) ↔ Gives (bookRefusals (length b) times prices i (settleRefusals time h)) n)
+    × ((bookReads end b times prices i .number ≡ n) ↔ Gives (bookRefusals (length b) times prices i (readRefusals h)) n)
+    × (IsShape (length b) times prices
+    → ((m : Message) → numberIn machine (blank end) b (record { at = i; it = tell m }) ≡ bookTells end b times prices i m .number)
+    × ((time : ℕ) → numberIn machine (blank end) b (record { at = i; it = settle time }) ≡ bookSettles end b times prices i time .answer .number))
+
+-- So is a setup.
+abbrev pub SetupNumbersAre : Type 0
+SetupNumbersAre = (stocks times prices end : ℕ) (us : List Setup) (n : ℕ)
+    → (setsUp stocks times prices end us ≡ n) ↔ Gives (setupRefusals stocks times prices end us) n
+
+-- The numbers of each message.
+abbrev pub numbersOf : Message → List ℕ
+numbersOf (T time price) = 0 ∷ 1 ∷ 3 ∷ 4 ∷ 5 ∷ 6 ∷ 7 ∷ 11 ∷ 12 ∷ 13 ∷ []
+numbersOf (Q time participant bid offer) = 0 ∷ 1 ∷ 3 ∷ 4 ∷ 5 ∷ 6 ∷ 7 ∷ []
+numbersOf (O time participant price) = 0 ∷ 1 ∷ 3 ∷ 4 ∷ 5 ∷ 6 ∷ 7 ∷ 8 ∷ 9 ∷ []
+numbersOf (P time participant) = 0 ∷ 1 ∷ 3 ∷ 4 ∷ 5 ∷ 6 ∷ 7 ∷ 8 ∷ 9 ∷ []
+numbersOf (R time participant price) = 0 ∷ 1 ∷ 3 ∷ 4 ∷ 5 ∷ 6 ∷ 7 ∷ 8 ∷ 9 ∷ 10 ∷ []
+numbersOf (X time participant price) = 0 ∷ 1 ∷ 3 ∷ 4 ∷ 5 ∷ 6 ∷ 7 ∷ 8 ∷ 9 ∷ 10 ∷ []
+
+-- Every number that is given is one of the call's list.
+abbrev pub NumbersListed : Type 0
+NumbersListed =
+    ((end : ℕ) (b : List Whole) (times prices i : ℕ)
+    → ((m : Message) → IsOneOf (bookTells end b times prices i m .number) (numbersOf m))
+    × ((time : ℕ) → IsOneOf (bookSettles end b times prices i time .answer .number) (0 ∷ 1 ∷ 3 ∷ 4 ∷ 14 ∷ []))
+    × IsOneOf (bookReads end b times prices i .number) (0 ∷ 1 ∷ 3 ∷ []))
+    × ((stocks times prices end : ℕ) (us : List Setup) → IsOneOf (setsUp stocks times prices end us) (0 ∷ 1 ∷ 2 ∷ []))
+
+-- ---------------------------------------------------------------- answers
+
+-- An accepted message leaves the stock after it, a settling that does a moment the stock after that moment, with its notice, whatever
+-- time the call named; a refused one leaves the stock as it stood.
+abbrev pub CallsLeave : Type 0
+CallsLeave = (h : Whole)
+    → ((m : Message) → (tells m h ≡ 0 → afterTelling m h ≡ after m h) × (¬ (tells m h ≡ 0) → afterTelling m h ≡ h))
+    × ((time : ℕ) → (settles time h ≡ 0 → (afterSettling time h ≡ fire h) × (settleAnswer time h ≡ notice h))
+    × (¬ (settles time h ≡ 0) → afterSettling time h ≡ h))
+
+-- An answer shows the stock as it then is, zeros with 1, 2 and 3. Settling's answer has the earliest moment, zeros where none was done.
+abbrev pub AnswersShow : Type 0
+AnswersShow = (h : Whole)
+    → ((m : Message) → Shows (tells m h) (afterTelling m h .stock) (tellAnswer m h))
+    × ((time : ℕ) → let a = settleAnswer time h in
+    Shows (settles time h) (afterSettling time h .stock) (a .answer)
+    × (settles time h ≡ 0 → IsFirst (a .moment) (moments h))
+    × (¬ (settles time h ≡ 0) → a .moment .mark ≡ 0 and a .moment .time ≡ 0))
+    × Shows (reads h) (h .stock) (readAnswer h)
+    × ((stocks times prices end : ℕ) (us : List Setup) → let a = setupAnswer stocks times prices end us in
+    (a .number ≡ setsUp stocks times prices end us) × ShowsNothing a)
+
+-- A book of the right shape answers a call on a stock that there is as the stock answers it; it answers any other with zeros.
+abbrev pub BookAnswers : Type 0
+BookAnswers = (end : ℕ) (b : List Whole) (times prices i : ℕ)
+    → let h = stock machine (blank end) b i in
+    let there = IsShape (length b) times prices and i < length b in
+    ((m : Message) → (there → bookTells end b times prices i m ≡ tellAnswer m h) × (¬ there → ShowsNothing (bookTells end b times prices i m)))
+    × ((time : ℕ) → (there → bookSettles end b times prices i time ≡ settleAnswer time h)
+    × (¬ there → ShowsNothing (bookSettles end b times prices i time .answer) × (bookSettles end b times prices i time .moment ≡ no-moment)))
+    × (there → bookReads end b times prices i ≡ readAnswer h) × (¬ there → ShowsNothing (bookReads end b times prices i))
+
 -- ---------------------------------------------------------------- a book and its stocks
+
+-- A setup starts a stock: Waiting, no quote, every clock 0, no trade and no reference, f still to come.
+abbrev pub FreshIs : Type 0
+FreshIs = (end : ℕ) (u : Setup) → let h = fresh end u in let s = h .stock in
+    s .setup ≡ u and s .end ≡ end
+    and stateOf s ≡ Waiting and clockOf s ≡ 0 and s .course .entry ≡ 0 and s .course .pause ≡ 0 and ¬ (s .course .early ≡ 0)
+    and s .reference ≡ record { price = 0; start = 0; hold = 0 }
+    and s .quotes .bids ≡ replicate 16 0 and s .quotes .offers ≡ replicate 16 0
+    and h .window ≡ []
 
 -- After an accepted setup and any calls, each stock is what its own story leaves, and the rules allow that story.
 abbrev pub ByStory : Type 0
@@ -57,31 +153,17 @@ ByStory = (end : ℕ) (us : List Setup) → Accepted end us → (cs : Calls mach
 
 -- A refused call changes nothing.
 abbrev pub Refused : Type 0
-Refused = (end : ℕ) (b : List Whole) (c : On (Call Message)) → (numberIn machine (blank end) b c ≡ 0 → ⊥)
+Refused = (end : ℕ) (b : List Whole) (c : On (Call Message)) → ¬ (numberIn machine (blank end) b c ≡ 0)
     → stepIn machine (blank end) b c ≡ b
 
 -- An accepted call changes nothing but the stock that it names.
 abbrev pub OthersStay : Type 0
-OthersStay = (end : ℕ) (b : List Whole) (c : On (Call Message)) (i : ℕ) → (i ≡ c .at → ⊥)
+OthersStay = (end : ℕ) (b : List Whole) (c : On (Call Message)) (i : ℕ) → ¬ (i ≡ c .at)
     → stock machine (blank end) (stepIn machine (blank end) b c) i ≡ stock machine (blank end) b i
-
--- A call's number, with the stock that it names as the call leaves it.
-abbrev pub answerTo : ℕ → List Whole → On (Call Message) → Answer
-answerTo end b c = answer (numberIn machine (blank end) b c) (stock machine (blank end) (stepIn machine (blank end) b c) (c .at) .stock)
-
--- A book of the right shape answers with these, 3 for a stock that there is not, and settling with the moment that it did, if any.
-abbrev pub BookAnswers : Type 0
-BookAnswers = (end : ℕ) (b : List Whole) (times prices i : ℕ) → badShape (length b) times prices ≡ false
-    → ((m : Message) → bookTells end b times prices i m ≡ answerTo end b (record { at = i; it = tell m }))
-    × ((time : ℕ) → let c : On (Call Message) = record { at = i; it = settle time } in
-    bookSettles end b times prices i time ≡ record {
-      answer = answerTo end b c;
-      moment = if eqb (numberIn machine (blank end) b c) 0 then nextOf (stock machine (blank end) b i) else no-moment;
-    })
 
 -- No call ever makes rubbish.
 abbrev pub NeverRubbish : Type 0
-NeverRubbish = (end : ℕ) (u : Setup) (es : Story) → Allowed end u es → rubbish (leaves end u es) ≡ false
+NeverRubbish = (end : ℕ) (u : Setup) (es : Story) → Allowed end u es → ¬ Rubbish (leaves end u es)
 
 -- What the next statement says holds of any machine with seven laws; the stock of the rules has them.
 abbrev pub OfAnyMachine : Type 1
@@ -94,14 +176,44 @@ SettledAlike = (end : ℕ) (us : List Setup) (cs ds : Calls machine) (time : ℕ
     → (i : ℕ) → i < length us
     → (now end us cs i ≡ now end us ds i) × (notices (story end us cs i) ≡ notices (story end us ds i))
 
--- Settling to a time in range does a moment or finds none.
-abbrev pub Settling : Type 0
-Settling = (end : ℕ) (u : Setup) (es : Story) → Allowed end u es → (time : ℕ) → time ≤ end + 300_000
-    → (settles time (leaves end u es) ≡ 0) ⊎ (settles time (leaves end u es) ≡ 14)
-
 -- Fewer than 2,000 moments happen in a row, so settling ends.
 abbrev pub FewMoments : Type 0
 FewMoments = (end : ℕ) (u : Setup) (es ns : Story) → Allowed end u (es ++ ns) → MomentsOnly ns → length ns < 2_000
+
+-- ---------------------------------------------------------------- what an event does
+
+-- The moment that happens is the earliest still to come, and of two at one time the one that stands first in z w x p c v f h.
+abbrev pub MomentsAre : Type 0
+MomentsAre = (h : Whole) (n : Notice) → CanHappen h (moment n) → IsFirst (n .moment) (moments h)
+
+-- The window and the quotes after each event.
+abbrev pub TradesAre : Type 0
+TradesAre = (h : Whole) (e : Event Message Notice) → CanHappen h e → TradesAfter h e (becomes machine h e .window)
+
+abbrev pub QuotesAre : Type 0
+QuotesAre = (h : Whole) (e : Event Message Notice) → CanHappen h e → QuotesAfter h e (becomes machine h e .stock)
+
+-- The state after each event.
+abbrev pub StatesAre : Type 0
+StatesAre = (h : Whole) (e : Event Message Notice) → CanHappen h e → let s′ = becomes machine h e .stock in Gives (stateAfter h e s′) (stateOf s′)
+
+-- The reference after each event, and what is kept beside the state.
+abbrev pub ReferenceIs : Type 0
+ReferenceIs = (h : Whole) (e : Event Message Notice) → CanHappen h e → ReferenceAfter h e (becomes machine h e .stock)
+
+abbrev pub KeptIs : Type 0
+KeptIs = (h : Whole) (e : Event Message Notice) → CanHappen h e → KeptAfter h e (becomes machine h e .stock)
+
+-- The words leave nothing open: a stock of which they hold is the one that the rules leave. A record has sixteen quotes.
+abbrev pub ChangesOnly : Type 0
+ChangesOnly = (h : Whole) (e : Event Message Notice) → CanHappen h e → length (h .stock .quotes .bids) ≡ 16 → length (h .stock .quotes .offers) ≡ 16
+    → (h′ : Whole) → TradesAfter h e (h′ .window) → QuotesAfter h e (h′ .stock) → ReferenceAfter h e (h′ .stock)
+    → Gives (stateAfter h e (h′ .stock)) (stateOf (h′ .stock)) → KeptAfter h e (h′ .stock)
+    → h′ ≡ becomes machine h e
+
+-- The mean that the rules take of a window is that of "Band arithmetic".
+abbrev pub MeanIs : Type 0
+MeanIs = (w : List Trade) → 1 ≤ length w → IsMean w (meanIn (figuresOf w))
 
 -- ---------------------------------------------------------------- a stock, read off its story
 
@@ -121,68 +233,36 @@ HeldTrades = (end : ℕ) (u : Setup) (es : Story) → Allowed end u es
 -- There are sixteen quotes, each the participant's last, and 0 before its first.
 abbrev pub LastQuotes : Type 0
 LastQuotes = (end : ℕ) (u : Setup) (es : Story) → Allowed end u es
-    → let q = leaves end u es .stock .quotes in
-    (length (q .bids) ≡ 16) × (length (q .offers) ≡ 16)
-    × ((i : ℕ) → i ≤ 15 → (getD (q .bids) i 0 ≡ lastQuote i (0, 0) es .0) × (getD (q .offers) i 0 ≡ lastQuote i (0, 0) es .1))
+    → (i : ℕ) → i ≤ 15 → Quoted i (leaves end u es .stock .quotes) (lastQuote i (0, 0) es)
 
--- Each event does to the reference what the rules say of that event, and nothing else changes it.
-abbrev pub ReferenceIs : Type 0
-ReferenceIs = (h : Whole) (e : Event Message Notice) → CanHappen h e → Refers h e (becomes machine h e)
-
--- It is the price of the last opening, or the mean of the window at its start, or the one before started again, and its start is that
--- event's date; before the first such event there is none.
+-- The reference is the one that was started last, by its price, dated by that event; before the first there is none, and so in Waiting.
 abbrev pub ReferenceSince : Type 0
 ReferenceSince = (end : ℕ) (u : Setup) (es : Story) → Allowed end u es
-    → let r = leaves end u es .stock .reference in
-    ((r ≡ record { price = 0; start = 0; hold = 0 }) × Referred 0 0 (fresh end u) es) ⊎ StartedBy (r .price) (r .start) (fresh end u) es
-
--- The bands are those of the reference, the close and the k of now; in Limit, of the k of its entry; in the other states they are 0.
-abbrev pub BandsAre : Type 0
-BandsAre = (end : ℕ) (u : Setup) (es : Story) → Allowed end u es
     → let s = leaves end u es .stock in
-    let at : ℕ → Limits = λ time. bandsOf (s .reference .price) 1 (percentOf (u .tier) (u .close)) (factorOf (u .leverage) time end) in
-    (stateOf s ≡ Trading → bandsIn s ≡ at (lastDate 0 es))
-    × (stateOf s ≡ Limit → (entered : ℕ) × LimitSince entered (fresh end u) es × (bandsIn s ≡ at entered))
-    × ((stateOf s ≡ Trading → ⊥) → (stateOf s ≡ Limit → ⊥) → bandsIn s ≡ record { lower = 0; upper = 0 })
+    let r = s .reference in
+    ((NoneStarted (fresh end u) es × (r ≡ record { price = 0; start = 0; hold = 0 })) ⊎ StartedBy (r .price) (r .start) (fresh end u) es)
+    × (stateOf s ≡ Waiting → NoneStarted (fresh end u) es)
 
--- The best bid is the highest bid that counts, the best offer the lowest offer that counts, and their flags say where they stand.
-abbrev pub BestQuotes : Type 0
-BestQuotes = (s : Stock) → IsBest s
-
--- The state follows one table of event by state.
-abbrev pub StatesFollow : Type 0
-StatesFollow = (h : Whole) (e : Event Message Notice) → CanHappen h e
-    → IsOneOf (stateOf (becomes machine h e .stock)) (leadsTo (letterOf e) (stateOf (h .stock)))
-
--- The earliest moment is not after any that is still to come.
-abbrev pub EarliestFirst : Type 0
-EarliestFirst = (h : Whole) → ComesFirst (nextOf h) (momentTable (figuresOf (h .window)) (h .stock))
-
--- A moment is dated by the rules.
+-- In Limit, and in a pause, the kept date is that of the event since which the stock is there.
 abbrev pub DatesAre : Type 0
-DatesAre = (h : Whole) (n : Notice) → CanHappen h (moment n) → IsDated n h
+DatesAre = (end : ℕ) (u : Setup) (es : Story) → Allowed end u es
+    → let s = leaves end u es .stock in
+    (stateOf s ≡ Limit → LimitSince (s .course .entry) (fresh end u) es)
+    × (stateOf s ≡ Paused or stateOf s ≡ Late → PausedSince (s .course .pause) (fresh end u) es)
 
--- Whatever time the call named, settling gives the moment's notice and does what the moment does.
-abbrev pub SameNotice : Type 0
-SameNotice = (h : Whole) (time : ℕ) → settles time h ≡ 0 → (settleAnswer time h ≡ notice h) × (afterSettling time h ≡ fire h)
+-- A Trading stock does not stand at a band with a market that is not crossed.
+abbrev pub QuotesLookedAt : Type 0
+QuotesLookedAt = (end : ℕ) (u : Setup) (es : Story) → Allowed end u es
+    → let s = leaves end u es .stock in
+    stateOf s ≡ Trading → ¬ (AtBand s and ¬ Crossing s)
 
--- ---------------------------------------------------------------- messages, trades and pauses
-
--- A message is accepted exactly where it has all that it needs; settling does a moment exactly where one is due, at a time in range.
-abbrev pub AcceptedWhere : Type 0
-AcceptedWhere = (h : Whole)
-    → ((m : Message) → (tells m h ≡ 0) ↔ Acceptable m h)
-    × ((time : ℕ) → (settles time h ≡ 0) ↔ ((rubbish h ≡ false) × (time ≤ h .stock .end + 300_000) × (dueBy time (nextOf h) ≡ true)))
-
--- The table of message by state, in words.
-abbrev pub TableInWords : Type 0
-TableInWords = (kind state : ℕ) → kind < 6 → state < 6 → taken kind state ≡ inWords kind state
+-- ---------------------------------------------------------------- trades, pauses and the first five minutes
 
 -- No trade is accepted outside bands in force, nor in a pause.
 abbrev pub TradesInBands : Type 0
 TradesInBands = (h : Whole) (time price : ℕ) → tells (T time price) h ≡ 0
-    → (inForce (h .stock) ≡ true → (bandsIn (h .stock) .lower ≤ price) × (price ≤ bandsIn (h .stock) .upper))
-    × (stateOf (h .stock) ≤ Limit)
+    → ((l : Limits) → Bands (h .stock) l → l .lower ≤ price and price ≤ l .upper)
+    × ¬ (stateOf (h .stock) ≡ Paused or stateOf (h .stock) ≡ Late)
 
 -- A moment begins a pause at t exactly when the limit state entered 15,000 before has lasted until t, and t is before the end.
 abbrev pub PausesBegin : Type 0
@@ -199,46 +279,17 @@ PausesEnd = (end : ℕ) (u : Setup) (es : Story) → Allowed end u es
     × ((e : Event Message Notice) → CanHappen h e
     → (stateOf (becomes machine h e .stock) ≡ Paused)
     ⊎ ((time price : ℕ) × (e ≡ message (R time (u .primary) price)) × (begun + 300_000 ≤ time))
-    ⊎ ((n : Notice) × (e ≡ moment n) × (markOf n ≡ mark-p) × (n .moment .time ≡ begun + 600_000)))
+    ⊎ ((n : Notice) × (e ≡ moment n) × (n .moment .mark ≡ mark-p) × (n .moment .time ≡ begun + 600_000)))
 
 -- A Late pause never trades again.
 abbrev pub NeverAgain : Type 0
 NeverAgain = (h : Whole) (es : Story) → Lawful machine h es → stateOf (h .stock) ≡ Late
     → (stateOf (left machine h es .stock) ≡ Late) ⊎ (stateOf (left machine h es .stock) ≡ Closed)
 
--- ---------------------------------------------------------------- Limit and the first five minutes
-
--- A Trading stock does not stand at a band with a market that is not crossed.
-abbrev pub QuotesLookedAt : Type 0
-QuotesLookedAt = (end : ℕ) (u : Setup) (es : Story) → Allowed end u es
-    → let s = leaves end u es .stock in
-    stateOf s ≡ Trading → (atLimit s ≡ false) ⊎ (crossed (bestOf s) ≡ true)
-
--- An event that enters Limit leaves flag 3 on a side and a market that is not crossed, and dates the entry.
-abbrev pub LimitEntered : Type 0
-LimitEntered = (h : Whole) (e : Event Message Notice) → CanHappen h e
-    → let s′ = becomes machine h e .stock in
-    stateOf s′ ≡ Limit → (stateOf (h .stock) ≡ Limit → ⊥) ⊎ EndsLimit e h
-    → (atLimit s′ ≡ true) × (crossed (bestOf s′) ≡ false) × (s′ .course .entry ≡ dated machine e)
-
--- Within a stay in Limit no event changes the reference, its start, or a band.
-abbrev pub LimitHolds : Type 0
-LimitHolds = (h : Whole) (e : Event Message Notice) → CanHappen h e → stateOf (h .stock) ≡ Limit → (EndsLimit e h → ⊥)
-    → let s′ = becomes machine h e .stock in
-    stateOf s′ ≡ Limit
-    → (s′ .reference .price ≡ h .stock .reference .price) × (s′ .reference .start ≡ h .stock .reference .start) × (bandsIn s′ ≡ bandsIn (h .stock))
-
--- A quote leaves Limit exactly when neither side then has flag 3: the reference starts anew; and if not, only the quote changes.
-abbrev pub QuoteInLimit : Type 0
-QuoteInLimit = (h : Whole) (time participant bid offer : ℕ) → tells (Q time participant bid offer) h ≡ 0 → stateOf (h .stock) ≡ Limit
-    → let quoted = with-quote participant bid offer (at-time time (h .stock)) in
-    let h′ = becomes machine h (message (Q time participant bid offer)) in
-    (atLimit quoted ≡ true → h′ .stock ≡ quoted) × (atLimit quoted ≡ false → (price : ℕ) × Starts price h′)
-
 -- A story settled past 300,000 that was Waiting before it has exactly one f.
 abbrev pub OneF : Type 0
 OneF = (end : ℕ) (u : Setup) (es : Story) → Allowed end u es → (time : ℕ) → settles time (leaves end u es) ≡ 14 → 300_000 ≤ time
-    → stateOf (leaves end u (before 300_000 es) .stock) ≡ 0 → countOf mark-f es ≡ 1
+    → stateOf (leaves end u (before 300_000 es) .stock) ≡ Waiting → countOf mark-f es ≡ 1
 
 -- ---------------------------------------------------------------- examples
 
@@ -257,37 +308,40 @@ AtEdges = every asAnswered edges ≡ true
 -- ------------------------------------------------------------------ all of it
 
 pub record Demands : Type 1 where
+  pub numbers : NumbersAre
+  pub book-numbers : BookNumbersAre
+  pub setup-numbers : SetupNumbersAre
+  pub listed : NumbersListed
+  pub calls-leave : CallsLeave
+  pub shows : AnswersShow
+  pub answers : BookAnswers
+  pub fresh-is : FreshIs
   pub by-story : ByStory
   pub refused : Refused
   pub others : OthersStay
-  pub answers : BookAnswers
   pub never-rubbish : NeverRubbish
   pub of-any-machine : OfAnyMachine
   pub machine-laws : MachineLaws machine
   pub settled-alike : SettledAlike
-  pub settling : Settling
   pub few-moments : FewMoments
+  pub moments-are : MomentsAre
+  pub trades : TradesAre
+  pub quotes : QuotesAre
+  pub states : StatesAre
+  pub reference : ReferenceIs
+  pub kept : KeptIs
+  pub changes-only : ChangesOnly
+  pub mean : MeanIs
   pub clock : ClockIs
   pub held-trades : HeldTrades
   pub last-quotes : LastQuotes
-  pub reference : ReferenceIs
   pub reference-since : ReferenceSince
-  pub bands : BandsAre
-  pub best-quotes : BestQuotes
-  pub states : StatesFollow
-  pub earliest-first : EarliestFirst
   pub dates : DatesAre
-  pub same-notice : SameNotice
-  pub accepted-where : AcceptedWhere
-  pub table-in-words : TableInWords
+  pub looked-at : QuotesLookedAt
   pub in-bands : TradesInBands
   pub pauses : PausesBegin
   pub resumes : PausesEnd
   pub never-again : NeverAgain
-  pub looked-at : QuotesLookedAt
-  pub limit-entered : LimitEntered
-  pub limit-holds : LimitHolds
-  pub quote-in-limit : QuoteInLimit
   pub one-f : OneF
   pub by-hand : ByHand
   pub as-printed : AsPrinted

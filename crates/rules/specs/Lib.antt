@@ -1,4 +1,6 @@
 pub mod Demands
+pub mod Words
+pub mod Changes
 pub mod Stock
 pub mod Quotes
 pub mod States

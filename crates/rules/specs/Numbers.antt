@@ -210,6 +210,16 @@ settleChecks time h = 1 when rubbish h ∷ timeChecks time (nextOf h) (h .stock)
 unfoldable pub settles : ℕ → Whole → ℕ
 settles time h = first (settleChecks time h)
 
+-- ------------------------------------------------------------------ "Numbers given back": the check of reading
+
+-- reading a stock looks at its rubbish alone
+unfoldable pub readChecks : Whole → List Check
+readChecks h = 1 when rubbish h ∷ []
+
+-- the number that reading is answered with
+unfoldable pub reads : Whole → ℕ
+reads h = first (readChecks h)
+
 -- ------------------------------------------------------------------ "Numbers given back": the answers
 
 -- no bid and no offer
@@ -237,6 +247,10 @@ afterSettling time h = if eqb (settles time h) 0 then fire h else h
 -- what a message is answered: the number, and the stock as it is then
 unfoldable pub tellAnswer : Message → Whole → Answer
 tellAnswer m h = answer (tells m h) (afterTelling m h .stock)
+
+-- what reading is answered: the number, and the stock as it stands
+unfoldable pub readAnswer : Whole → Answer
+readAnswer h = answer (reads h) (h .stock)
 
 -- the dated notice of a moment: the answer, with the mark and the time
 unfoldable pub notice : Whole → Notice

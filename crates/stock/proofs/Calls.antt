@@ -1,7 +1,7 @@
 -- What a call gives and leaves, from what its parts promise.
 -- Assumes nothing.
 use Prim.Native.Nat.{ℕ, _≤_, max}
-use mathlib.Core.Bool.{Bool, true, false, not}
+use mathlib.Core.Bool.{Bool, true, false, not, true≢false}
 use mathlib.Core.List.{List, [], _∷_, map}
 use mathlib.Core.Path.{_≡_, refl, sym, ap, _∙_}
 use native.Mathlib.Nat.{max-le}
@@ -11,11 +11,12 @@ use lib.Dec.{eqb}
 use lib.ListN.{length, length-append, length-map}
 use Rattle.forms.specs.Choice.{if_then_else_, allOf, anyOf}
 use Rattle.forms.proofs.Choice.{if-true, if-false, if-arms, all-head, all-tail, all-yes, all-empty, any-head, any-tail}
+use Rattle.forms.specs.Checks.{first}
 use Rattle.forms.proofs.Checks.{beyond}
 use Rattle.rules.specs.Stock.{Trade, Whole, clockOf, figuresOf, staying}
 use Rattle.rules.specs.Moments.{dueBy, windowAfter, come, nextOf, fire}
 use Rattle.rules.specs.Messages.{does, after}
-use Rattle.rules.specs.Numbers.{badTrades, rubbish, ownChecks, tells, settles, zeros, answer, afterTelling, notice, tellAnswer, settleAnswer}
+use Rattle.rules.specs.Numbers.{badTrades, rubbish, ownChecks, tells, settles, zeros, answer, afterTelling, notice, tellAnswer, settleAnswer, readChecks, reads, readAnswer}
 use Rattle.rules.specs.declared.Answer.{Answer}
 use Rattle.rules.specs.declared.Message.{Message}
 use Rattle.rules.specs.declared.Message.the-variants.{Trade as T, Quote as Q, Opening as O, Pause as P, Reopening as R, Closing as X}
@@ -222,9 +223,18 @@ module _ (b : Bytes) (g : Sight) (k : Seen b g) where
   -- ---------------------------------------------------------------- a reading
 
   pub read-sound : (a : Answer) → g .sound ≡ true → a ≡ answer 0 (b .kept .stock) → a ≡ reading b
-  unfolding reading
-  read-sound a s ea = ea ∙ simp (tests b g k s, if-true)
+  unfolding reading readAnswer reads readChecks first
+  read-sound a s ea =
+      let t = tests b g k s in
+      let shape : shaped b ≡ true = all-head _ _ t in
+      let clean : rubbish (view b) ≡ false = not-true _ (all-head _ _ (all-tail _ _ t)) in
+      ea ∙ simp (shape, clean, if-true, if-false)
 
   pub read-unsound : (a : Answer) → g .sound ≡ false → a ≡ answer 1 (b .kept .stock) → a ≡ reading b
-  unfolding reading
-  read-unsound a s ea = let no = sym (k .sound) ∙ s in ea ∙ simp (one-zeros, no, if-false)
+  unfolding reading readAnswer reads readChecks first
+  read-unsound a s ea = go (shaped b) refl (rubbish (view b)) refl
+    where
+      go : (x : Bool) → shaped b ≡ x → (y : Bool) → rubbish (view b) ≡ y → a ≡ reading b
+      go false p y q = ea ∙ simp (one-zeros, p, if-false)
+      go true p true q = ea ∙ simp (p, q, if-true)
+      go true p false q = absurd (true≢false (sym (all-yes _ _ p (all-yes _ _ (ap not q) all-empty)) ∙ sym (k .sound) ∙ s))

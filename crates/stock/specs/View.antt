@@ -1,7 +1,7 @@
 -- One stock in memory, what it means in the rules, and what a call promises (document 01, "What the book holds", "How much a promise says").
 -- Assumes nothing.
 use Prim.Native.Nat.{ℕ}
-use mathlib.Core.Bool.{Bool, not}
+use mathlib.Core.Bool.{Bool}
 use mathlib.Core.List.{List, [], _∷_, map}
 use mathlib.Core.Path.{_≡_}
 use lib.Dec.{eqb}
@@ -10,7 +10,7 @@ use Rattle.forms.specs.Choice.{if_then_else_, allOf}
 use Rattle.rules.specs.Stock.{Whole}
 use Rattle.rules.specs.Moments.{no-moment, fire}
 use Rattle.rules.specs.Messages.{after}
-use Rattle.rules.specs.Numbers.{rubbish, tells, settles, zeros, answer, tellAnswer, settleAnswer}
+use Rattle.rules.specs.Numbers.{tells, settles, zeros, tellAnswer, settleAnswer, readAnswer}
 use Rattle.rules.specs.declared.Answer.{Answer}
 use Rattle.rules.specs.declared.Message.{Message}
 use Rattle.rules.specs.declared.Notice.{Notice}
@@ -75,6 +75,6 @@ Settles time b r times prices = _≡_ {A = Outcome Notice} (record { answer = r 
 
 -- ------------------------------------------------------------------ what reading gives
 
--- 0 with what the stock shows, or 1 with zeros where the parts have not 512 places or the stock is rubbish
+-- parts that have not 512 places get 1; of others the rules' answer
 unfoldable pub reading : Bytes → Answer
-reading b = if allOf (shaped b ∷ not (rubbish (view b)) ∷ []) then answer 0 (b .kept .stock) else zeros 1
+reading b = if shaped b then readAnswer (view b) else zeros 1

@@ -1,0 +1,242 @@
+-- What calls answer and leave: of a stock, and of a book.
+-- Assumes nothing.
+use Prim.Native.Nat.{ℕ, _≤_, _<_}
+use mathlib.Core.Bool.{Bool, true, false}
+use mathlib.Core.List.{List, [], _∷_}
+use mathlib.Core.Logic.{_⊎_, inl, inr, ⊎-elim}
+use mathlib.Core.Path.{_≡_, refl, sym, ap, _∙_, subst}
+use native.Mathlib.Omega.{arith}
+use borrow.Author.Tests.{eq-eqb, ne-eqb}
+use lib.Dec.{ltb, leb, eqb}
+use lib.ListN.{length}
+use Rattle.forms.specs.Choice.{if_then_else_, anyOf}
+use Rattle.forms.specs.Checks.{first}
+use Rattle.forms.specs.Words.{_or_, _and_, Number, Gives, givable}
+use Rattle.forms.proofs.Choice.{if-true, if-false}
+use Rattle.forms.proofs.Decides.{Decides, words, is-so, stable, either-way, by-lt, by-eq, by-le, skip, take, one-number, exactly, listed as one-listed, within, among}
+use Rattle.rules.specs.Stock.{Whole, stateOf}
+use Rattle.rules.specs.Quotes.{bandsIn, bestOf}
+use Rattle.rules.specs.Moments.{no-moment}
+use Rattle.rules.specs.Numbers.{badShape, callChecks, tells, settles, reads, answer, zeros, afterTelling, afterSettling, notice, tellAnswer, settleAnswer, readAnswer, setupAnswer, fresh}
+use Rattle.rules.specs.Machine.{numberIn, stock}
+use Rattle.rules.specs.Book.{machine, blank, bookTells, bookSettles, bookReads}
+use Rattle.rules.specs.Words.{IsShape, moments, IsFirst, refusals, settleRefusals, readRefusals, bookRefusals, setupRefusals, ShowsNothing, Shows}
+use Rattle.rules.specs.Demands.{CallsLeave, AnswersShow, BookAnswers, BookNumbersAre, NumbersListed, numbersOf, FreshIs}
+use Rattle.rules.specs.declared.Stock.{Stock}
+use Rattle.rules.specs.declared.Answer.{Answer}
+use Rattle.rules.specs.declared.Notice.{Notice}
+use Rattle.rules.specs.declared.Message.{Message}
+use Rattle.rules.specs.declared.Message.the-variants.{Trade as T, Quote as Q, Opening as O, Pause as P, Reopening as R, Closing as X}
+use Rattle.rules.proofs.BestQuotes.{bands-shown, bid-shown, offer-shown}
+use Rattle.rules.proofs.Coming.{next-first}
+use Rattle.rules.proofs.Lawful.{machineLaws}
+use Rattle.rules.proofs.Numbers.{told, settled, was-read, set-up}
+use Rattle.rules.proofs.Ranges.{shape-is}
+
+-- ------------------------------------------------------------------ a call on a stock
+
+-- a number is 0 or not
+done-or-not : (n : ℕ) → (n ≡ 0) ⊎ (¬ (n ≡ 0))
+done-or-not n = either-way _ (by-eq n 0)
+
+pub calls-leave : CallsLeave
+unfolding afterTelling afterSettling settleAnswer
+calls-leave h = (
+  (λ m. ((λ e. if-true _ _ _ (eq-eqb _ 0 e)), (λ n. if-false _ _ _ (ne-eqb _ 0 n)))),
+  (λ time. (
+    (λ e. (if-true _ _ _ (eq-eqb _ 0 e), if-true _ _ _ (eq-eqb _ 0 e))),
+    (λ n. if-false _ _ _ (ne-eqb _ 0 n)),
+  )),
+)
+
+shows-it : (n : ℕ) (s : Stock) → Shows n s (answer n s)
+unfolding answer if_then_else_
+shows-it n s = go (anyOf (eqb n 1 ∷ eqb n 2 ∷ eqb n 3 ∷ [])) (search words)
+  where
+    go : (b : Bool) → Decides b (n ≡ 1 or n ≡ 2 or n ≡ 3)
+        → Shows n s (if b then zeros n else record { number = n; state = stateOf s; reference = s .reference .price; bands = bandsIn s; best = bestOf s })
+    go true d = (refl, inl (d .holds refl, (refl, (refl, (refl, (refl, (refl, (refl, (refl, refl)))))))))
+    go false d = (refl, inr (d .fails refl, (refl, (refl, (bands-shown s, (bid-shown s, offer-shown s))))))
+
+number-of : (n : ℕ) (s : Stock) → answer n s .number ≡ n
+number-of n s = shows-it n s .0
+
+abbrev SettleShows : ℕ → Whole → Type 0
+SettleShows time h =
+    let a = settleAnswer time h in
+    Shows (settles time h) (afterSettling time h .stock) (a .answer)
+    × (settles time h ≡ 0 → IsFirst (a .moment) (moments h))
+    × (¬ (settles time h ≡ 0) → a .moment .mark ≡ 0 and a .moment .time ≡ 0)
+
+settle-done : (time : ℕ) (h : Whole) → settles time h ≡ 0 → SettleShows time h
+unfolding notice
+settle-done time h e =
+    let k = calls-leave h .1 time .0 e in
+    rw (k .1, k .0, e) (shows-it 0 _, (λ _. next-first h (machineLaws .its-time time h e .0)), (λ z. absurd (z refl)))
+
+settle-refused : (time : ℕ) (h : Whole) → ¬ (settles time h ≡ 0) → SettleShows time h
+unfolding settleAnswer
+settle-refused time h n =
+    rw (calls-leave h .1 time .1 n, if-false _ _ _ (ne-eqb (settles time h) 0 n)) (shows-it _ _, (λ e. absurd (n e)), (λ _. (refl, refl)))
+
+pub shows : AnswersShow
+unfolding tellAnswer readAnswer setupAnswer
+shows h = (
+  (λ m. shows-it (tells m h) _),
+  (λ time. ⊎-elim (settle-done time h) (settle-refused time h) (done-or-not (settles time h))),
+  shows-it (reads h) _,
+  (λ stocks times prices end us. (refl, (refl, (refl, (refl, (refl, (refl, (refl, (refl, refl))))))))),
+)
+
+pub fresh-is : FreshIs
+unfolding fresh
+fresh-is end u = (refl, (refl, (refl, (refl, (refl, (refl, ((λ z. omega arith), (refl, (refl, (refl, refl))))))))))
+
+-- ------------------------------------------------------------------ a call on a book
+
+-- what the first checks of a call come to
+data Called (stocks times prices i : ℕ) : Type 0 where
+  wrong-shape : ¬ IsShape stocks times prices → first (callChecks stocks times prices i) ≡ 1 → Called stocks times prices i
+  no-stock : IsShape stocks times prices → stocks ≤ i → first (callChecks stocks times prices i) ≡ 3 → Called stocks times prices i
+  there : IsShape stocks times prices → i < stocks → first (callChecks stocks times prices i) ≡ 0 → Called stocks times prices i
+
+called : (stocks times prices i : ℕ) → Called stocks times prices i
+unfolding callChecks first if_then_else_
+called stocks times prices i = go (badShape stocks times prices) refl (leb stocks i) refl
+  where
+    go : (b : Bool) → badShape stocks times prices ≡ b → (c : Bool) → leb stocks i ≡ c → Called stocks times prices i
+    go true e c f = wrong-shape (shape-is stocks times prices .holds e) (rw e)
+    go false e true f = no-stock (is-so (shape-is stocks times prices) (search stable) e) (by-le stocks i .holds f) (rw (e, f))
+    go false e false f =
+        let n = by-le stocks i .fails f in
+        there (is-so (shape-is stocks times prices) (search stable) e) (omega arith) (rw (e, f))
+
+-- a call's answer: that of the stock where it is there, and zeros beside the number where it is not
+module _ {A : Type 0} (zero : ℕ → A) (it : A) (numberOf : A → ℕ) (its : (n : ℕ) → numberOf (zero n) ≡ n)
+    (stocks times prices i : ℕ) where
+  abbrev called-answer : A
+  called-answer = let number = first (callChecks stocks times prices i) in if eqb number 0 then it else zero number
+
+  abbrev There : Type 0
+  There = IsShape stocks times prices and i < stocks
+
+  if-there : There → called-answer ≡ it
+  if-there t = go (called stocks times prices i)
+    where
+      go : Called stocks times prices i → called-answer ≡ it
+      go (wrong-shape n e) = absurd (n (t .0))
+      go (no-stock s l e) = let k = t .1 in absurd (omega arith)
+      go (there s l e) = if-true _ _ _ (eq-eqb _ 0 e)
+
+  if-not : ¬ There → called-answer ≡ zero (first (callChecks stocks times prices i))
+  if-not n = go (called stocks times prices i)
+    where
+      go : Called stocks times prices i → called-answer ≡ zero (first (callChecks stocks times prices i))
+      go (wrong-shape _ e) = if-false _ _ _ (ne-eqb (first (callChecks stocks times prices i)) 0 (λ z. omega arith))
+      go (no-stock _ _ e) = if-false _ _ _ (ne-eqb (first (callChecks stocks times prices i)) 0 (λ z. omega arith))
+      go (there s l e) = absurd (n (s, l))
+
+  called-number : (own : List Number) → Gives own (numberOf it) → Gives (bookRefusals stocks times prices i own) (numberOf called-answer)
+  called-number own g = go (called stocks times prices i)
+    where
+      c : ℕ
+      c = first (callChecks stocks times prices i)
+
+      refused : ¬ (c ≡ 0) → numberOf called-answer ≡ c
+      refused n = ap numberOf (if-false _ _ _ (ne-eqb _ 0 n)) ∙ its c
+
+      go : Called stocks times prices i → Gives (bookRefusals stocks times prices i own) (numberOf called-answer)
+      go (wrong-shape n e) = take 1 _ _ _ n (refused (λ z. omega arith) ∙ e)
+      go (no-stock s l e) = skip 1 _ _ _ (λ n. n s) (take 3 _ _ _ l (refused (λ z. omega arith) ∙ e))
+      go (there s l e) = skip 1 _ _ _ (λ n. n s) (skip 3 _ _ _ (λ k. omega arith)
+          (subst (λ a. Gives own (numberOf a)) (sym (if-there (s, l))) g))
+
+nothing-shown : (n : ℕ) (a : Answer) → a ≡ zeros n → ShowsNothing a
+nothing-shown n a e = rw e (refl, (refl, (refl, (refl, (refl, (refl, (refl, refl)))))))
+
+module _ (end : ℕ) (b : List Whole) (times prices i : ℕ) where
+  abbrev here : Whole
+  here = stock machine (blank end) b i
+
+  told-on : (m : Message) → Gives (bookRefusals (length b) times prices i (refusals m here)) (bookTells end b times prices i m .number)
+  unfolding bookTells tellAnswer
+  told-on m = called-number zeros _ (λ a. a .number) (λ n. refl) (length b) times prices i _
+      (subst (Gives (refusals m here)) (sym (number-of (tells m here) _)) (told m here))
+
+  settled-number : (time : ℕ) → settleAnswer time here .answer .number ≡ settles time here
+  settled-number time = shows here .1 time .0 .0
+
+  settled-on : (time : ℕ) → Gives (bookRefusals (length b) times prices i (settleRefusals time here)) (bookSettles end b times prices i time .answer .number)
+  unfolding bookSettles
+  settled-on time = called-number {A = Notice} (λ n. record { answer = zeros n; moment = no-moment }) _ (λ a. a .answer .number) (λ n. refl) (length b) times prices i _
+      (subst (Gives (settleRefusals time here)) (sym (settled-number time)) (settled time here))
+
+  read-on : Gives (bookRefusals (length b) times prices i (readRefusals here)) (bookReads end b times prices i .number)
+  unfolding bookReads readAnswer
+  read-on = called-number zeros _ (λ a. a .number) (λ n. refl) (length b) times prices i _
+      (subst (Gives (readRefusals here)) (sym (number-of (reads here) _)) (was-read here))
+
+pub answers : BookAnswers
+unfolding bookTells bookSettles bookReads
+answers end b times prices i = (
+  (λ m. (if-there zeros _ (λ a. a .number) (λ n. refl) _ _ _ _, (λ n. nothing-shown _ _ (if-not zeros _ (λ a. a .number) (λ n. refl) _ _ _ _ n)))),
+  (λ time. (
+    if-there {A = Notice} (λ n. record { answer = zeros n; moment = no-moment }) _ (λ a. a .answer .number) (λ n. refl) _ _ _ _,
+    (λ n.
+        let e = if-not {A = Notice} (λ n. record { answer = zeros n; moment = no-moment }) (settleAnswer time (stock machine (blank end) b i))
+        (λ a. a .answer .number) (λ n. refl) (length b) times prices i n in
+        (nothing-shown _ _ (ap (λ a. a .answer) e), ap (λ a. a .moment) e)),
+  )),
+  if-there zeros _ (λ a. a .number) (λ n. refl) _ _ _ _,
+  (λ n. nothing-shown _ _ (if-not zeros _ (λ a. a .number) (λ n. refl) _ _ _ _ n)),
+)
+
+pub book-numbers : BookNumbersAre
+unfolding numberIn
+book-numbers end b times prices i n = (
+  (λ m. exactly _ _ n (told-on end b times prices i m)),
+  (λ time. exactly _ _ n (settled-on end b times prices i time)),
+  exactly _ _ n (read-on end b times prices i),
+  (λ s. (
+    (λ m. by-place (tells m (here end b times prices i)) _ _ s
+        (λ t. ap (λ a. a .number) (answers end b times prices i .0 m .0 t) ∙ shows (here end b times prices i) .0 m .0)
+        (told-on end b times prices i m)),
+    (λ time. by-place (settles time (here end b times prices i)) _ _ s
+        (λ t. ap (λ a. a .answer .number) (answers end b times prices i .1 time .0 t) ∙ shows (here end b times prices i) .1 time .0 .0)
+        (settled-on end b times prices i time)),
+  )),
+)
+  where
+    -- a book of the right shape: the stock's number where it is there, and 3 where it is not
+    by-place : (own given : ℕ) (rest : List Number) → IsShape (length b) times prices → (IsShape (length b) times prices and i < length b → given ≡ own)
+        → Gives (bookRefusals (length b) times prices i rest) given → (if ltb i (length b) then own else 3) ≡ given
+    by-place own given rest s is g = go (ltb i (length b)) (by-lt i (length b))
+      where
+        go : (c : Bool) → Decides c (i < length b) → (if c then own else 3) ≡ given
+        go true d = if-true true own 3 refl ∙ sym (is (s, d .holds refl))
+        go false d =
+            let n = d .fails refl in
+            if-false false own 3 refl ∙ one-number _ 3 given (skip 1 _ _ _ (λ k. k s) (take 3 _ _ _ (omega arith) refl)) g
+
+-- ------------------------------------------------------------------ the numbers of each call
+
+numbers-of : (m : Message) (h : Whole) (stocks times prices i : ℕ) → within (givable (bookRefusals stocks times prices i (refusals m h))) (numbersOf m) ≡ true
+numbers-of (T time price) h stocks times prices i = refl
+numbers-of (Q time participant bid offer) h stocks times prices i = refl
+numbers-of (O time participant price) h stocks times prices i = refl
+numbers-of (P time participant) h stocks times prices i = refl
+numbers-of (R time participant price) h stocks times prices i = refl
+numbers-of (X time participant price) h stocks times prices i = refl
+
+pub listed : NumbersListed
+listed = (
+  (λ end b times prices i.
+      let h = stock machine (blank end) b i in
+      let on = bookRefusals (length b) times prices i in (
+        (λ m. among (givable (on (refusals m h))) (numbersOf m) _ (numbers-of m h (length b) times prices i) (one-listed _ _ (told-on end b times prices i m))),
+        (λ time. among (givable (on (settleRefusals time h))) (0 ∷ 1 ∷ 3 ∷ 4 ∷ 14 ∷ []) _ refl (one-listed _ _ (settled-on end b times prices i time))),
+        among (givable (on (readRefusals h))) (0 ∷ 1 ∷ 3 ∷ []) _ refl (one-listed _ _ (read-on end b times prices i)),
+      )),
+  (λ stocks times prices end us.
+      among (givable (setupRefusals stocks times prices end us)) (0 ∷ 1 ∷ 2 ∷ []) _ refl (one-listed _ _ (set-up stocks times prices end us))),
+)

@@ -1,0 +1,163 @@
+-- Every call gives the number that the words give, and no other.
+-- Assumes nothing.
+use Prim.Native.Nat.{ℕ, _<_}
+use mathlib.Core.Bool.{false, not}
+use mathlib.Core.List.{List, [], _∷_}
+use mathlib.Core.Logic.{inl, ⊎-elim}
+use mathlib.Core.Path.{_≡_, refl}
+use native.Mathlib.Omega.{arith}
+use lib.Dec.{eqb}
+use lib.ListN.{length}
+use Rattle.forms.specs.Choice.{if_then_else_, anyOf}
+use Rattle.forms.specs.Checks.{first}
+use Rattle.forms.specs.Checks.Check.{_when_}
+use Rattle.forms.specs.Words.{_or_, Number, Gives, givable}
+use Rattle.forms.specs.Words.Number.{_for_}
+use Rattle.forms.proofs.Decides.{Decides, words, by-lt, row, passed-over, own-table, choices, numbers as tables, exactly, listed, first-or-rest, past, below, cells, has, not-among}
+use Rattle.rules.specs.Stock.{Whole, Waiting, Trading, Paused, Late, Closed, stateOf}
+use Rattle.rules.specs.Messages.{kind, timeOf, taken}
+use Rattle.rules.specs.Numbers.{rubbish, notPrimary, ownChecks, tableCheck, messageChecks, checks, tells, timeChecks, settleChecks, settles, readChecks, reads, setupChecks, setsUp}
+use Rattle.rules.specs.Machine.{stock}
+use Rattle.rules.specs.Words.{Due, Rubbish, OutOfRange, ownRefusals, refusals, settleRefusals, readRefusals, setupRefusals}
+use Rattle.rules.specs.Demands.{NumbersAre, SetupNumbersAre}
+use Rattle.rules.specs.declared.Message.{Message}
+use Rattle.rules.specs.declared.Setup.{Setup}
+use Rattle.rules.specs.declared.Message.the-variants.{Trade as T, Quote as Q, Opening as O, Pause as P, Reopening as R, Closing as X}
+use Rattle.rules.proofs.BestQuotes.{outside-is, straddle-is}
+use Rattle.rules.proofs.Coming.{due-is, past-is}
+use Rattle.rules.proofs.Ranges.{shape-is, end-is, setups-are, range-is, stock-is, trades-are}
+
+-- ------------------------------------------------------------------ rubbish
+
+pub rubbish-is : (h : Whole) → Decides (rubbish h) (Rubbish h)
+unfolding rubbish
+rubbish-is h = search (words, stock-is, trades-are, past-is) depth 20
+
+state-below : (h : Whole) → ¬ Rubbish h → stateOf (h .stock) < 6
+state-below h n = let k : ¬ (5 < stateOf (h .stock)) = λ l. n (inl (inl l)) in omega arith
+
+-- ------------------------------------------------------------------ the table of message by state
+
+-- a row of the table by tests; every cell is compared with these by computation
+takenT : ℕ → ℕ
+takenT state = if eqb state 5 then 7 else if anyOf (eqb state 3 ∷ eqb state 4 ∷ []) then 11 else 0
+
+takenQ : ℕ → ℕ
+takenQ state = if eqb state 5 then 7 else 0
+
+takenIn : ℕ → ℕ → ℕ
+takenIn there state = if eqb state 5 then 7 else if not (eqb state there) then 9 else 0
+
+by-takenT : (state : ℕ) → Gives (7 for (state ≡ Closed) ∷ 11 for (state ≡ Paused or state ≡ Late) ∷ []) (takenT state)
+unfolding takenT
+by-takenT state = search (words, choices)
+
+by-takenQ : (state : ℕ) → Gives (7 for (state ≡ Closed) ∷ []) (takenQ state)
+unfolding takenQ
+by-takenQ state = search (words, choices)
+
+by-takenIn : (there state : ℕ) → Gives (7 for (state ≡ Closed) ∷ 9 for (¬ (state ≡ there)) ∷ []) (takenIn there state)
+unfolding takenIn
+by-takenIn there state = search (words, choices)
+
+row-T : (state : ℕ) → state < 6 → Gives (7 for (state ≡ Closed) ∷ 11 for (state ≡ Paused or state ≡ Late) ∷ []) (taken 0 state)
+unfolding taken takenT below if_then_else_ anyOf
+row-T state l = rw (cells 6 (taken 0) takenT refl state l) (by-takenT state)
+
+row-Q : (state : ℕ) → state < 6 → Gives (7 for (state ≡ Closed) ∷ []) (taken 1 state)
+unfolding taken takenQ below if_then_else_
+row-Q state l = rw (cells 6 (taken 1) takenQ refl state l) (by-takenQ state)
+
+row-O : (state : ℕ) → state < 6 → Gives (7 for (state ≡ Closed) ∷ 9 for (¬ (state ≡ Waiting)) ∷ []) (taken 2 state)
+unfolding taken takenIn below if_then_else_
+row-O state l = rw (cells 6 (taken 2) (takenIn Waiting) refl state l) (by-takenIn Waiting state)
+
+row-P : (state : ℕ) → state < 6 → Gives (7 for (state ≡ Closed) ∷ 9 for (¬ (state ≡ Trading)) ∷ []) (taken 3 state)
+unfolding taken takenIn below if_then_else_
+row-P state l = rw (cells 6 (taken 3) (takenIn Trading) refl state l) (by-takenIn Trading state)
+
+row-R : (state : ℕ) → state < 6 → Gives (7 for (state ≡ Closed) ∷ 9 for (¬ (state ≡ Paused)) ∷ []) (taken 4 state)
+unfolding taken takenIn below if_then_else_
+row-R state l = rw (cells 6 (taken 4) (takenIn Paused) refl state l) (by-takenIn Paused state)
+
+row-X : (state : ℕ) → state < 6 → Gives (7 for (state ≡ Closed) ∷ 9 for (¬ (state ≡ Late)) ∷ []) (taken 5 state)
+unfolding taken takenIn below if_then_else_
+row-X state l = rw (cells 6 (taken 5) (takenIn Late) refl state l) (by-takenIn Late state)
+
+-- ------------------------------------------------------------------ a call on a stock
+
+-- the checks from 8 on: the primary, the table, and the message's own
+own-given : (m : Message) (h : Whole) → let s = h .stock in stateOf s < 6
+    → Gives (ownRefusals m h) (first (8 when notPrimary (s .setup .primary) m ∷ tableCheck (taken (kind m) (stateOf s)) (ownChecks m (length (h .window)) s)))
+unfolding notPrimary ownChecks
+own-given (T time price) h l = passed-over 8 _ _ (own-table _ _ _ _ refl (row-T _ l) (search (words, tables, outside-is)))
+own-given (Q time participant bid offer) h l = passed-over 8 _ _ (own-table _ _ _ _ refl (row-Q _ l) (search tables))
+own-given (O time participant price) h l = row 8 _ _ _ _ (search words) (λ _. own-table _ _ _ _ refl (row-O _ l) (search (words, tables)))
+own-given (P time participant) h l = row 8 _ _ _ _ (search words) (λ _. own-table _ _ _ _ refl (row-P _ l) (search (words, tables, straddle-is)))
+own-given (R time participant price) h l = row 8 _ _ _ _ (search words) (λ _. own-table _ _ _ _ refl (row-R _ l) (search (words, tables)))
+own-given (X time participant price) h l = row 8 _ _ _ _ (search words) (λ _. own-table _ _ _ _ refl (row-X _ l) (search (words, tables)))
+
+pub told : (m : Message) (h : Whole) → Gives (refusals m h) (tells m h)
+unfolding tells checks messageChecks
+told m h = row 1 _ _ _ _ (rubbish-is h) (λ sound.
+    row 4 _ _ _ _ (range-is _ m) (λ _.
+    row 5 _ _ _ _ (by-lt _ _) (λ _.
+    row 6 _ _ _ _ (due-is _ h) (λ _.
+    own-given m h (state-below h sound)))))
+
+pub settled : (time : ℕ) (h : Whole) → Gives (settleRefusals time h) (settles time h)
+unfolding settles settleChecks timeChecks
+settled time h = search (words, tables, rubbish-is, due-is) depth 20
+
+pub was-read : (h : Whole) → Gives (readRefusals h) (reads h)
+unfolding reads readChecks
+was-read h = search (words, tables, rubbish-is) depth 20
+
+pub numbers : NumbersAre
+numbers h n = ((λ m. exactly _ _ n (told m h)), (λ time. exactly _ _ n (settled time h)), exactly _ _ n (was-read h))
+
+pub set-up : (stocks times prices end : ℕ) (us : List Setup) → Gives (setupRefusals stocks times prices end us) (setsUp stocks times prices end us)
+unfolding setsUp setupChecks
+set-up stocks times prices end us = search (words, tables, shape-is, end-is, setups-are) depth 20
+
+pub setup-numbers : SetupNumbersAre
+setup-numbers stocks times prices end us n = exactly _ _ n (set-up stocks times prices end us)
+
+-- ------------------------------------------------------------------ what a call that is done has passed, in words
+
+pub record Taken (m : Message) (h : Whole) : Type 0 where
+  pub sound : ¬ Rubbish h
+  pub in-range : ¬ OutOfRange (h .stock .end) m
+  pub none-due : ¬ Due (timeOf m) h
+  pub own-passed : Gives (ownRefusals m h) 0
+
+pub taken-words : (m : Message) (h : Whole) → tells m h ≡ 0 → Taken m h
+taken-words m h e =
+    let a = past 1 0 _ _ (λ z. omega arith) (numbers h 0 .0 m .0 e) in
+    let b = past 4 0 _ _ (λ z. omega arith) (a .1) in
+    let c = past 5 0 _ _ (λ z. omega arith) (b .1) in
+    let d = past 6 0 _ _ (λ z. omega arith) (c .1) in
+    record { sound = a .0; in-range = b .0; none-due = d .0; own-passed = d .1 }
+
+pub settled-sound : (time : ℕ) (h : Whole) → settles time h ≡ 0 → ¬ Rubbish h
+settled-sound time h e = past 1 0 _ _ (λ z. omega arith) (numbers h 0 .1 time .0 e) .0
+
+-- ------------------------------------------------------------------ where a call on a stock gives 1
+
+-- the rows behind the first do not give it
+only-first : (n : ℕ) (A : Type 0) (rest : List Number) → has (givable rest) n ≡ false → Gives (n for A ∷ rest) n → A
+only-first n A rest none g = ⊎-elim (λ k. k .0) (λ k. absurd (not-among (givable rest) n n refl none (listed rest n (k .1)))) (first-or-rest n n A rest g)
+
+pub told-1 : (m : Message) (h : Whole) → tells m h ≡ 1 → Rubbish h
+told-1 (T time price) h e = only-first 1 _ _ refl (numbers h 1 .0 (T time price) .0 e)
+told-1 (Q time participant bid offer) h e = only-first 1 _ _ refl (numbers h 1 .0 (Q time participant bid offer) .0 e)
+told-1 (O time participant price) h e = only-first 1 _ _ refl (numbers h 1 .0 (O time participant price) .0 e)
+told-1 (P time participant) h e = only-first 1 _ _ refl (numbers h 1 .0 (P time participant) .0 e)
+told-1 (R time participant price) h e = only-first 1 _ _ refl (numbers h 1 .0 (R time participant price) .0 e)
+told-1 (X time participant price) h e = only-first 1 _ _ refl (numbers h 1 .0 (X time participant price) .0 e)
+
+pub settled-1 : (time : ℕ) (h : Whole) → settles time h ≡ 1 → Rubbish h
+settled-1 time h e = only-first 1 _ _ refl (numbers h 1 .1 time .0 e)
+
+pub read-1 : (h : Whole) → reads h ≡ 1 → Rubbish h
+read-1 h e = only-first 1 _ _ refl (numbers h 1 .2 .0 e)

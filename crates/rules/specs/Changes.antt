@@ -1,0 +1,164 @@
+-- Document 01 in words: what an event changes, and what it leaves ("States", "Moments", "Messages"). An event is a message that was
+-- accepted or a moment that happened; h is the stock that it comes to, and s′ the stock that it leaves. No test of the rules is asked.
+-- The demands `trades`, `quotes`, `reference`, `states` and `kept` say that each event does this, and `changes-only` that together they leave
+-- nothing of a stock open. Words.antt says how to read it.
+-- Assumes nothing.
+use Prim.Native.Nat.{ℕ, _+_, _-_, _≤_}
+use mathlib.Core.Bool.{Bool}
+use mathlib.Core.List.{List, [], _∷_, _++_}
+use mathlib.Core.Path.{_≡_}
+use lib.Dec.{ltb, eqb}
+use lib.ListN.{length, getD}
+use Rattle.forms.specs.Choice.{if_then_else_, anyOf}
+use Rattle.forms.specs.Words.{_or_, _and_, IsOneOf, Number, Otherwise}
+use Rattle.forms.specs.Words.Number.{_for_}
+use Rattle.rules.specs.Stock.{Trade, Whole, Waiting, Trading, Limit, Paused, Late, Closed, stateOf}
+use Rattle.rules.specs.Moments.{mark-z, mark-w, mark-x, mark-p, mark-c, mark-v, mark-f, mark-h}
+use Rattle.rules.specs.Messages.{letter-Q, letter-P, letter-X, letter, with-quote}
+use Rattle.rules.specs.Machine.{Event, message, moment, dated, becomes}
+use Rattle.rules.specs.Book.{machine}
+use Rattle.rules.specs.Words.{IsMean, OnePercent, AtBand, Crossing}
+use Rattle.rules.specs.declared.Quotes.{Quotes}
+use Rattle.rules.specs.declared.Stock.{Stock}
+use Rattle.rules.specs.declared.Notice.{Notice}
+use Rattle.rules.specs.declared.Message.{Message}
+use Rattle.rules.specs.declared.Message.the-variants.{Trade as T, Quote as Q, Opening as O, Pause as P, Reopening as R, Closing as X}
+
+-- an event's letter or mark
+abbrev pub letterOf : Event Message Notice → ℕ
+letterOf (message m) = letter m
+letterOf (moment n) = n .moment .mark
+
+-- something is new where the words hold, and as before where they do not
+abbrev pub IsNew : {A : Type 0} → Type 0 → A → A → A → Type 0
+IsNew Words now new before = (Words and now ≡ new) or (¬ Words and now ≡ before)
+
+-- ------------------------------------------------------------------ "States": the window
+
+-- the moments that close a stock
+abbrev pub closes : ℕ → Bool
+closes mark = anyOf (eqb mark mark-z ∷ eqb mark mark-c ∷ [])
+
+-- T joins the trades w; O and R make them its price alone, dated by the message; closing empties them
+abbrev pub joins : List Trade → Event Message Notice → List Trade
+joins w (message (T time price)) = w ++ (record { at = time; price = price } ∷ [])
+joins w (message (Q time participant bid offer)) = w
+joins w (message (O time participant price)) = record { at = time; price = price } ∷ []
+joins w (message (P time participant)) = w
+joins w (message (R time participant price)) = record { at = time; price = price } ∷ []
+joins w (message (X time participant price)) = []
+joins w (moment n) = if closes (n .moment .mark) then [] else w
+
+-- of trades those that have not left at `time`: a trade of time u leaves at u + 300,000
+unfoldable pub recent : ℕ → List Trade → List Trade
+recent time [] = []
+recent time (t ∷ ts) = if ltb time (t .at + 300_000) then t ∷ recent time ts else recent time ts
+
+-- the window after an event: trades leave by v alone
+abbrev pub TradesAfter : Whole → Event Message Notice → List Trade → Type 0
+TradesAfter h e w′ = IsNew (letterOf e ≡ mark-v) w′ (recent (dated machine e) (h .window)) (joins (h .window) e)
+
+-- ------------------------------------------------------------------ "Quotes and flags": each participant's bid and offer
+
+-- the bid and offer of participant i after an event, of which `last` were the ones before: Q sets them, closing makes them 0
+abbrev pub quoteBy : ℕ → ℕ × ℕ → Event Message Notice → ℕ × ℕ
+quoteBy i last (message (T time price)) = last
+quoteBy i last (message (Q time participant bid offer)) = if eqb participant i then (bid, offer) else last
+quoteBy i last (message (O time participant price)) = last
+quoteBy i last (message (P time participant)) = last
+quoteBy i last (message (R time participant price)) = last
+quoteBy i last (message (X time participant price)) = (0, 0)
+quoteBy i last (moment n) = if closes (n .moment .mark) then (0, 0) else last
+
+-- of sixteen, participant i has that bid and offer
+abbrev pub Quoted : ℕ → Quotes → ℕ × ℕ → Type 0
+Quoted i q last = length (q .bids) ≡ 16 and getD (q .bids) i 0 ≡ last .0 and length (q .offers) ≡ 16 and getD (q .offers) i 0 ≡ last .1
+
+-- the quotes after an event
+abbrev pub QuotesAfter : Whole → Event Message Notice → Stock → Type 0
+QuotesAfter h e s′ = (i : ℕ) (last : ℕ × ℕ) → i ≤ 15 → Quoted i (h .stock .quotes) last → Quoted i (s′ .quotes) (quoteBy i last e)
+
+-- ------------------------------------------------------------------ "States": the reference
+
+-- Limit ends by a quote after which, by the bands of the Limit, neither side has flag 3
+abbrev pub LeavesLimit : Whole → (participant bid offer : ℕ) → Type 0
+LeavesLimit h participant bid offer = stateOf (h .stock) ≡ Limit and ¬ AtBand (with-quote participant bid offer (h .stock))
+
+-- the Test finds that the mean of the window w is to be the reference: in Trading, with the hold ended and the window not empty
+abbrev pub Test : ℕ → Whole → List Trade → ℕ → Type 0
+Test hold h w mean = stateOf (h .stock) ≡ Trading and hold ≡ 0 and IsMean w mean and OnePercent mean (h .stock .reference .price)
+
+-- the event starts a reference of that price: O and R their own, p and a Limit left with no trade held the old one, the others the mean
+-- of the window that the event leaves
+abbrev pub Starts : Whole → Event Message Notice → ℕ → Type 0
+Starts h (message (T time price)) r =
+    let w = becomes machine h (message (T time price)) .window in
+    (stateOf (h .stock) ≡ Waiting and 300_000 ≤ time and IsMean w r) or Test (h .stock .reference .hold) h w r
+Starts h (message (Q time participant bid offer)) r =
+    let w = becomes machine h (message (Q time participant bid offer)) .window in
+    LeavesLimit h participant bid offer and (IsMean w r or (w ≡ [] and r ≡ h .stock .reference .price))
+Starts h (message (O time participant price)) r = r ≡ price
+Starts h (message (P time participant)) r = ⊥
+Starts h (message (R time participant price)) r = r ≡ price
+Starts h (message (X time participant price)) r = ⊥
+Starts h (moment n) r =
+    let mark = n .moment .mark in
+    let w = becomes machine h (moment n) .window in
+    (mark ≡ mark-p and r ≡ h .stock .reference .price)
+    or (mark ≡ mark-v and Test (h .stock .reference .hold) h w r)
+    or (mark ≡ mark-f and IsMean w r)
+    or (mark ≡ mark-h and Test 0 h w r)
+
+-- the event starts a reference
+abbrev pub StartsOne : Whole → Event Message Notice → Type 0
+StartsOne h e = (r : ℕ) × Starts h e r
+
+-- a reference that starts has its price, its date and a new hold; any other is as before, but that h ends the hold
+abbrev pub ReferenceAfter : Whole → Event Message Notice → Stock → Type 0
+ReferenceAfter h e s′ =
+    let r = h .stock .reference in
+    let r′ = s′ .reference in
+    (Starts h e (r′ .price) and r′ .start ≡ dated machine e and r′ .hold ≡ 1)
+    or (¬ StartsOne h e and r′ .price ≡ r .price and r′ .start ≡ r .start and IsNew (letterOf e ≡ mark-h) (r′ .hold) 0 (r .hold))
+
+-- ------------------------------------------------------------------ "States": the state
+
+-- X, z and c close
+abbrev pub Closes : Event Message Notice → Type 0
+Closes e = IsOneOf (letterOf e) (letter-X ∷ mark-z ∷ mark-c ∷ [])
+
+-- P and x start a pause
+abbrev pub StartsPause : Event Message Notice → Type 0
+StartsPause e = IsOneOf (letterOf e) (letter-P ∷ mark-x ∷ [])
+
+-- the quotes are looked at: on every new reference, and in Trading on a quote and on w
+abbrev pub Looks : Whole → Event Message Notice → Type 0
+Looks h e = StartsOne h e or (stateOf (h .stock) ≡ Trading and IsOneOf (letterOf e) (letter-Q ∷ mark-w ∷ []))
+
+-- Limit is entered: they are looked at, and then a side has flag 3 and the best bid is not above the best offer
+abbrev pub Enters : Whole → Event Message Notice → Stock → Type 0
+Enters h e s′ = Looks h e and AtBand s′ and ¬ Crossing s′
+
+-- the state after an event; a pause begun at E - 600,000 or later is a Late pause
+abbrev pub stateAfter : Whole → Event Message Notice → Stock → List Number
+stateAfter h e s′ =
+    Closed for Closes e ∷
+    Late for (StartsPause e and h .stock .end - 600_000 ≤ dated machine e) ∷
+    Paused for StartsPause e ∷
+    Limit for Enters h e s′ ∷
+    Trading for Looks h e ∷
+    stateOf (h .stock) for Otherwise ∷
+    []
+
+-- ------------------------------------------------------------------ what is kept beside the state
+
+-- the clock is at the event's date, setup and E are as before; the entry into Limit and the pause start are the dates of the events that
+-- made them; f is marked as having happened by f alone
+abbrev pub KeptAfter : Whole → Event Message Notice → Stock → Type 0
+KeptAfter h e s′ =
+    let c = h .stock .course in
+    let c′ = s′ .course in
+    c′ .clock ≡ dated machine e and s′ .setup ≡ h .stock .setup and s′ .end ≡ h .stock .end
+    and IsNew (Enters h e s′) (c′ .entry) (dated machine e) (c .entry)
+    and IsNew (StartsPause e) (c′ .pause) (dated machine e) (c .pause)
+    and IsNew (letterOf e ≡ mark-f) (c′ .early) 0 (c .early)

@@ -1,0 +1,344 @@
+-- Document 01 in words: ranges, quotes, moments, rubbish, numbers and answers, in the order of its sections. Each name is a proposition
+-- over numbers: no test of the rules is asked. The demands `numbers`, `moments`, `shows` and `mean` say that the rules compute this.
+--
+-- To read it: `A and B`, `A or B`, `¬ A` are "and", "or", "not"; `a ≡ b` is "equals"; `(x : ℕ) × A` is "there is a number x with A";
+-- `(x : ℕ) → A` is "for every x, A"; `n for A` is a row of a table: the number n, given where A holds and no row above does.
+-- Assumes nothing.
+use Prim.Native.Nat.{ℕ, _+_, _-_, _*_, _≤_, _<_}
+use mathlib.Core.List.{List, [], _∷_}
+use mathlib.Core.Path.{_≡_}
+use lib.ListN.{length}
+use Rattle.forms.specs.Words.{_or_, _and_, Some, IsOneOf, Number, Gives, Otherwise}
+use Rattle.forms.specs.Words.Number.{_for_}
+use Rattle.band.specs.Band.{percentOf, factorOf, bandsOf}
+use Rattle.band.specs.declared.Limits.{Limits}
+use Rattle.rules.specs.Stock.{Trade, Whole, Waiting, Trading, Limit, Paused, Late, Closed, stateOf, clockOf}
+use Rattle.rules.specs.Moments.{mark-z, mark-w, mark-x, mark-p, mark-c, mark-v, mark-f, mark-h}
+use Rattle.rules.specs.Messages.{timeOf}
+use Rattle.rules.specs.declared.Side.{Side}
+use Rattle.rules.specs.declared.Answer.{Answer}
+use Rattle.rules.specs.declared.Setup.{Setup}
+use Rattle.rules.specs.declared.Quotes.{Quotes}
+use Rattle.rules.specs.declared.Stock.{Stock}
+use Rattle.rules.specs.declared.Moment.{Moment}
+use Rattle.rules.specs.declared.Message.{Message}
+use Rattle.rules.specs.declared.Message.the-variants.{Trade as T, Quote as Q, Opening as O, Pause as P, Reopening as R, Closing as X}
+
+-- ------------------------------------------------------------------ "What the book holds"
+
+-- 1 to 64 stocks, and 512 places of each array for each
+abbrev pub IsShape : ℕ → ℕ → ℕ → Type 0
+IsShape stocks times prices = 1 ≤ stocks and stocks ≤ 64 and times ≡ 512 * stocks and prices ≡ 512 * stocks
+
+-- ------------------------------------------------------------------ "Units and ranges"
+
+-- a price is 1 to 999,999,999
+abbrev pub IsPrice : ℕ → Type 0
+IsPrice price = 1 ≤ price and price ≤ 999_999_999
+
+-- a side of a quote is a price, or 0 where it is absent
+abbrev pub IsSide : ℕ → Type 0
+IsSide price = price ≤ 999_999_999
+
+-- participants are 0 to 15
+abbrev pub IsParticipant : ℕ → Type 0
+IsParticipant participant = participant ≤ 15
+
+-- the session's end E is 3,600,000 to 23,400,000
+abbrev pub IsEnd : ℕ → Type 0
+IsEnd end = 3_600_000 ≤ end and end ≤ 23_400_000
+
+-- times run to E + 300,000
+abbrev pub IsTime : ℕ → ℕ → Type 0
+IsTime end time = time ≤ end + 300_000
+
+-- tier 1 or 2; leverage 1, 2 or 3, and in tier 1 only 1; the primary is a participant, the previous close a price
+abbrev pub IsSetup : Setup → Type 0
+IsSetup u =
+    1 ≤ u .tier and u .tier ≤ 2
+    and 1 ≤ u .leverage and u .leverage ≤ 3
+    and (u .tier ≡ 1 → u .leverage ≤ 1)
+    and IsParticipant (u .primary)
+    and IsPrice (u .close)
+
+-- ------------------------------------------------------------------ "Band arithmetic": the mean; of "States", one percent
+
+-- the sum of the prices of trades
+abbrev pub sumOf : List Trade → ℕ
+sumOf [] = 0
+sumOf (t ∷ ts) = t .price + sumOf ts
+
+-- the mean of c prices with sum s is (2s + c) / 2c, dropping the rest: so a half goes up; there is none of no price
+abbrev pub IsMean : List Trade → ℕ → Type 0
+IsMean w mean = (rest : ℕ) × (2 * sumOf w + length w ≡ mean * (2 * length w) + rest) × (rest < 2 * length w)
+
+-- 100 x |mean - reference| >= reference
+abbrev pub OnePercent : ℕ → ℕ → Type 0
+OnePercent mean reference = 100 * reference + reference ≤ 100 * mean or 100 * mean + reference ≤ 100 * reference
+
+-- ------------------------------------------------------------------ "Quotes and flags"
+
+-- the bands of the reference by the stock's close, and by the k of a time ("Band arithmetic")
+abbrev pub bandsAt : Stock → ℕ → Limits
+bandsAt s time = bandsOf (s .reference .price) 1 (percentOf (s .setup .tier) (s .setup .close)) (factorOf (s .setup .leverage) time (s .end))
+
+-- bands are in force in Trading and Limit only; in Limit k is that of the entry's time
+abbrev pub Bands : Stock → Limits → Type 0
+Bands s l = (stateOf s ≡ Trading and l ≡ bandsAt s (clockOf s)) or (stateOf s ≡ Limit and l ≡ bandsAt s (s .course .entry))
+
+-- a bid counts that is present and not above the upper band in force
+abbrev pub BidCounts : Stock → ℕ → Type 0
+BidCounts s bid = 1 ≤ bid and ((l : Limits) → Bands s l → bid ≤ l .upper)
+
+-- an offer counts that is present and not below the lower band in force
+abbrev pub OfferCounts : Stock → ℕ → Type 0
+OfferCounts s offer = 1 ≤ offer and ((l : Limits) → Bands s l → l .lower ≤ offer)
+
+-- the best bid is the highest that counts
+abbrev pub BestBid : Stock → ℕ → Type 0
+BestBid s best =
+    IsOneOf best (s .quotes .bids) and BidCounts s best
+    and ((bid : ℕ) → IsOneOf bid (s .quotes .bids) → BidCounts s bid → bid ≤ best)
+
+-- the best offer is the lowest that counts
+abbrev pub BestOffer : Stock → ℕ → Type 0
+BestOffer s best =
+    IsOneOf best (s .quotes .offers) and OfferCounts s best
+    and ((offer : ℕ) → IsOneOf offer (s .quotes .offers) → OfferCounts s offer → best ≤ offer)
+
+-- flag 2 on a side, a straddle: the best bid is below the lower band, or the best offer above the upper
+abbrev pub Straddle : Stock → Type 0
+Straddle s = (l : Limits) × Bands s l × (((bid : ℕ) × BestBid s bid × (bid < l .lower)) or ((offer : ℕ) × BestOffer s offer × (l .upper < offer)))
+
+-- flag 3 on a side: the best bid is the upper band, or the best offer the lower
+abbrev pub AtBand : Stock → Type 0
+AtBand s = (l : Limits) × Bands s l × (BestBid s (l .upper) or BestOffer s (l .lower))
+
+-- the best bid is above the best offer; an absent side crosses nothing
+abbrev pub Crossing : Stock → Type 0
+Crossing s = (bid : ℕ) × (offer : ℕ) × BestBid s bid × BestOffer s offer × (offer < bid)
+
+-- a best bid as it is shown: 0 with flag 0 where there is none; flag 2 non-executable, 3 limit, 1 plain
+abbrev pub BidShown : Stock → Side → Type 0
+BidShown s bid =
+    (¬ ((b : ℕ) × BestBid s b) and bid .price ≡ 0 and bid .flag ≡ 0)
+    or (BestBid s (bid .price) and Gives (
+    2 for ((l : Limits) × Bands s l × (bid .price < l .lower)) ∷
+    3 for ((l : Limits) × Bands s l × (bid .price ≡ l .upper)) ∷
+    1 for Otherwise ∷
+    []) (bid .flag))
+
+-- a best offer, likewise
+abbrev pub OfferShown : Stock → Side → Type 0
+OfferShown s offer =
+    (¬ ((o : ℕ) × BestOffer s o) and offer .price ≡ 0 and offer .flag ≡ 0)
+    or (BestOffer s (offer .price) and Gives (
+    2 for ((l : Limits) × Bands s l × (l .upper < offer .price)) ∷
+    3 for ((l : Limits) × Bands s l × (offer .price ≡ l .lower)) ∷
+    1 for Otherwise ∷
+    []) (offer .flag))
+
+-- ------------------------------------------------------------------ "Moments"
+
+-- a mark, its time, and the words for which it is still to come
+pub record Coming : Type 1 where
+  pub mark : ℕ
+  pub time : ℕ
+  pub comes : Type 0
+
+infix 0 _at_while_
+abbrev pub _at_while_ : ℕ → ℕ → Type 0 → Coming
+mark at time while comes = record { mark = mark; time = time; comes = comes }
+
+-- the time of the oldest trade, where there is one
+abbrev pub oldestAt : List Trade → ℕ
+oldestAt [] = 0
+oldestAt (t ∷ ts) = t .at
+
+-- the table of moments, in the order of ties; w is still to come while the clock is before it, f and h while their markers are not 0
+abbrev pub moments : Whole → List Coming
+moments h =
+    let s = h .stock in
+    (mark-z at s .end while stateOf s ≤ Limit) ∷
+    (mark-w at 900_000 while stateOf s ≤ Late and clockOf s < 900_000) ∷
+    (mark-w at s .end - 1_500_000 while stateOf s ≤ Late and clockOf s < s .end - 1_500_000) ∷
+    (mark-x at s .course .entry + 15_000 while stateOf s ≡ Limit) ∷
+    (mark-p at s .course .pause + 600_000 while stateOf s ≡ Paused) ∷
+    (mark-c at s .end + 300_000 while stateOf s ≡ Late) ∷
+    (mark-v at oldestAt (h .window) + 300_000 while stateOf s ≤ Late and ¬ (length (h .window) ≡ 0)) ∷
+    (mark-f at 300_000 while stateOf s ≡ Waiting and ¬ (s .course .early ≡ 0)) ∷
+    (mark-h at s .reference .start + 30_000 while Trading ≤ stateOf s and stateOf s ≤ Late and ¬ (s .reference .hold ≡ 0)) ∷
+    []
+
+-- one of them is still to come, at such a time
+abbrev pub Comes : (ℕ → Type 0) → List Coming → Type 0
+Comes At [] = ⊥
+Comes At (c ∷ cs) = (c .comes and At (c .time)) or Comes At cs
+
+-- a moment not after `time` is unsettled
+abbrev pub Due : ℕ → Whole → Type 0
+Due time h = Comes (λ t. t ≤ time) (moments h)
+
+-- the moment m is the earliest still to come, and of two at one time the one that stands first
+abbrev pub IsFirst : Moment → List Coming → Type 0
+IsFirst m [] = ⊥
+IsFirst m (c ∷ cs) =
+    (c .comes and m .mark ≡ c .mark and m .time ≡ c .time and ¬ Comes (λ time. time < c .time) cs)
+    or ((c .comes → m .time < c .time) and IsFirst m cs)
+
+-- ------------------------------------------------------------------ "Numbers given back": rubbish
+
+-- a kept time over E + 300,000, a stale one too
+abbrev pub BadTime : Stock → Type 0
+BadTime s =
+    ¬ IsTime (s .end) (clockOf s)
+    or ¬ IsTime (s .end) (s .reference .start)
+    or ¬ IsTime (s .end) (s .course .entry)
+    or ¬ IsTime (s .end) (s .course .pause)
+
+-- a quote out of range
+abbrev pub BadQuote : Quotes → Type 0
+BadQuote q = Some (λ bid. ¬ IsSide bid) (q .bids) or Some (λ offer. ¬ IsSide offer) (q .offers)
+
+-- a reference over the price range, or 0 in states 1 to 4
+abbrev pub BadReference : Stock → Type 0
+BadReference s = ¬ (s .reference .price ≤ 999_999_999) or (s .reference .price ≡ 0 and Trading ≤ stateOf s and stateOf s ≤ Late)
+
+-- a held trade with a price out of range, dated after the clock (so that a time out of range is bad too), or before the trade ahead of it
+abbrev pub BadTrade : ℕ → ℕ → List Trade → Type 0
+BadTrade clock ahead [] = ⊥
+BadTrade clock ahead (t ∷ ts) = (¬ IsPrice (t .price) or clock < t .at or t .at < ahead) or BadTrade clock (t .at) ts
+
+-- a state over 5; a setup number or E out of range; a kept time, a quote or the reference; in state 3 a pause start of E - 600,000 or later
+abbrev pub BadStock : Stock → Type 0
+BadStock s =
+    Closed < stateOf s
+    or ¬ IsSetup (s .setup)
+    or ¬ IsEnd (s .end)
+    or BadTime s
+    or BadQuote (s .quotes)
+    or BadReference s
+    or (stateOf s ≡ Paused and s .end - 600_000 ≤ s .course .pause)
+
+-- all of it: that; over 512 trades; a bad trade; a moment still to come that is dated before the clock
+abbrev pub Rubbish : Whole → Type 0
+Rubbish h =
+    BadStock (h .stock)
+    or 512 < length (h .window)
+    or BadTrade (clockOf (h .stock)) 0 (h .window)
+    or Comes (λ time. time < clockOf (h .stock)) (moments h)
+
+-- ------------------------------------------------------------------ "Numbers given back": the calls, each with its table
+
+-- 4: a price, a participant or the time is out of range
+abbrev pub OutOfRange : ℕ → Message → Type 0
+OutOfRange end (T time price) = ¬ IsPrice price or ¬ IsTime end time
+OutOfRange end (Q time participant bid offer) = ¬ IsParticipant participant or ¬ IsSide bid or ¬ IsSide offer or ¬ IsTime end time
+OutOfRange end (O time participant price) = ¬ IsParticipant participant or ¬ IsPrice price or ¬ IsTime end time
+OutOfRange end (P time participant) = ¬ IsParticipant participant or ¬ IsTime end time
+OutOfRange end (R time participant price) = ¬ IsParticipant participant or ¬ IsPrice price or ¬ IsTime end time
+OutOfRange end (X time participant price) = ¬ IsParticipant participant or ¬ IsPrice price or ¬ IsTime end time
+
+-- 12: a price outside bands in force
+abbrev pub Outside : Stock → ℕ → Type 0
+Outside s price = (l : Limits) × Bands s l × (price < l .lower or l .upper < price)
+
+-- of each message the numbers from 8 on: the primary, the table of message by state (7, 9, 11), and its own
+abbrev pub ownRefusals : Message → Whole → List Number
+ownRefusals (T time price) h =
+    let s = h .stock in
+    7 for (stateOf s ≡ Closed) ∷
+    11 for (stateOf s ≡ Paused or stateOf s ≡ Late) ∷
+    12 for Outside s price ∷
+    13 for (512 ≤ length (h .window)) ∷
+    []
+ownRefusals (Q time participant bid offer) h =
+    7 for (stateOf (h .stock) ≡ Closed) ∷
+    []
+ownRefusals (O time participant price) h =
+    let s = h .stock in
+    8 for (¬ (participant ≡ s .setup .primary)) ∷
+    7 for (stateOf s ≡ Closed) ∷
+    9 for (¬ (stateOf s ≡ Waiting)) ∷
+    9 for (300_000 ≤ time) ∷
+    []
+ownRefusals (P time participant) h =
+    let s = h .stock in
+    8 for (¬ (participant ≡ s .setup .primary)) ∷
+    7 for (stateOf s ≡ Closed) ∷
+    9 for (¬ (stateOf s ≡ Trading)) ∷
+    9 for (¬ Straddle s) ∷
+    []
+ownRefusals (R time participant price) h =
+    let s = h .stock in
+    8 for (¬ (participant ≡ s .setup .primary)) ∷
+    7 for (stateOf s ≡ Closed) ∷
+    9 for (¬ (stateOf s ≡ Paused)) ∷
+    10 for (time < s .course .pause + 300_000) ∷
+    []
+ownRefusals (X time participant price) h =
+    let s = h .stock in
+    8 for (¬ (participant ≡ s .setup .primary)) ∷
+    7 for (stateOf s ≡ Closed) ∷
+    9 for (¬ (stateOf s ≡ Late)) ∷
+    10 for (time < s .end) ∷
+    []
+
+-- a message: 1, 4, 5, 6, and its own
+abbrev pub refusals : Message → Whole → List Number
+refusals m h =
+    1 for Rubbish h ∷
+    4 for OutOfRange (h .stock .end) m ∷
+    5 for (timeOf m < clockOf (h .stock)) ∷
+    6 for Due (timeOf m) h ∷
+    ownRefusals m h
+
+-- settling to a time: 1, 4, and 14 where nothing is due
+abbrev pub settleRefusals : ℕ → Whole → List Number
+settleRefusals time h =
+    1 for Rubbish h ∷
+    4 for (¬ IsTime (h .stock .end) time) ∷
+    14 for (¬ Due time h) ∷
+    []
+
+-- reading: 1
+abbrev pub readRefusals : Whole → List Number
+readRefusals h = 1 for Rubbish h ∷ []
+
+-- each of these on a book of so many stocks and places: before its own numbers 1 for the shape, and 3 for a stock number too large
+abbrev pub bookRefusals : (stocks times prices i : ℕ) → List Number → List Number
+bookRefusals stocks times prices i own =
+    1 for (¬ IsShape stocks times prices) ∷
+    3 for (stocks ≤ i) ∷
+    own
+
+-- setup: 1 for the shape and for a list of the wrong length, 2 for E or a stock's setup out of range
+abbrev pub setupRefusals : (stocks times prices end : ℕ) → List Setup → List Number
+setupRefusals stocks times prices end us =
+    1 for (¬ IsShape stocks times prices or ¬ (length us ≡ stocks)) ∷
+    2 for (¬ IsEnd end or Some (λ u. ¬ IsSetup u) us) ∷
+    []
+
+-- ------------------------------------------------------------------ "Numbers given back": the answers
+
+-- zeros beside the number
+abbrev pub ShowsNothing : Answer → Type 0
+ShowsNothing a =
+    a .state ≡ 0 and a .reference ≡ 0 and a .bands .lower ≡ 0 and a .bands .upper ≡ 0
+    and a .best .bid .price ≡ 0 and a .best .bid .flag ≡ 0 and a .best .offer .price ≡ 0 and a .best .offer .flag ≡ 0
+
+-- lower and upper are the bands in force, and 0 where there are none
+abbrev pub BandsShown : Stock → Limits → Type 0
+BandsShown s l = Bands s l or (¬ ((b : Limits) × Bands s b) and l .lower ≡ 0 and l .upper ≡ 0)
+
+-- state, reference, lower, upper, best bid and flag, best offer and flag of a stock
+abbrev pub ShowsStock : Stock → Answer → Type 0
+ShowsStock s a =
+    a .state ≡ stateOf s and a .reference ≡ s .reference .price and BandsShown s (a .bands)
+    and BidShown s (a .best .bid) and OfferShown s (a .best .offer)
+
+-- a number with what the stock shows; after 1, 2 and 3 zeros
+abbrev pub Shows : ℕ → Stock → Answer → Type 0
+Shows n s a =
+    let nothing = n ≡ 1 or n ≡ 2 or n ≡ 3 in
+    a .number ≡ n and ((nothing and ShowsNothing a) or (¬ nothing and ShowsStock s a))

@@ -1,0 +1,84 @@
+"""Which theorems of a crate are statements, and which of them a check refused. Used by tests/edits and tests/wrong-rules/run.
+
+A *law* is a theorem that proves a field of a record Laws or Demands of the crate's specs/. A theorem is *in words* where its type
+cites a definition of crates/forms/specs/Words, of crates/rules/specs/Words or Changes, `Decides`, which ties a test to words, or a
+definition of proofs/ that does.
+"""
+import re
+from pathlib import Path
+
+ROOT = Path(__file__).resolve().parent.parent
+WORDS = ("crates/forms/specs/Words.antt", "crates/rules/specs/Words.antt", "crates/rules/specs/Changes.antt")
+DECLARED = re.compile(r"^ *(?:(?:abbrev|unfoldable) )?(?:pub )?(record |data )?([^\s(){}:]+)((?: [({][^)}]*[)}])*) :(?: (.*))?$")
+
+
+def text_of(path):
+    """The text of a file without its comments, nothing where there is none."""
+    return re.sub(r"--.*", "", path.read_text()) if path.exists() else ""
+
+
+def declarations(path):
+    """What a file declares: its name, and the text of its type; of a record, a data type and an abbreviation all of it."""
+    found, deeper = {}, None
+    for line in text_of(path).splitlines():
+        indent = len(line) - len(line.lstrip())
+        begins = DECLARED.match(line)
+        if deeper and line.strip() and (indent > deeper[0] or deeper[2] and line.split()[:1] == [deeper[1]]):
+            found[deeper[1]] += "\n" + line
+        elif begins:
+            whole = bool(begins[1]) or "abbrev" in line.split()
+            deeper = (indent, begins[2], whole)
+            found[begins[2]] = found.get(begins[2], "") + "\n" + begins[3] + " " + (begins[4] or "")
+        elif line.strip():
+            deeper = None
+    return found
+
+
+def tokens(text):
+    return set(re.split(r"[\s(){},.;]+", text))
+
+
+def laws(crate):
+    """The theorems that prove the crate's laws, as pairs of a file's stem and a name."""
+    found = set()
+    for spec in (ROOT / "crates" / crate / "specs").glob("*.antt"):
+        for record, body in re.findall(r"^pub record (Laws|Demands) .*\n((?:[ \t].*\n|\n)*)", text_of(spec), re.M):
+            proof = text_of(ROOT / "crates" / crate / "proofs" / f"{record}.antt")
+            given = dict(re.findall(r"^ *(\S+) = ([^\s;]+);", proof, re.M))
+            where = {name.split(" as ")[-1]: file for file, names in re.findall(r"^use \S*\.(\w+)\.\{([^}]*)\}", proof, re.M) for name in names.split(", ")}
+            fields = re.findall(r"^  pub (\S+) :", body, re.M)
+            found |= {(field, where.get(given.get(field, field), record), given.get(field, field)) for field in fields}
+    return found
+
+
+def in_words(crate):
+    """The theorems of the crate whose types are in words, as pairs of a file's stem and a name."""
+    cited = {"Decides"} | {part for file in WORDS for name in declarations(ROOT / file) for part in [name] if "_" not in name}
+    proofs = {path.stem: declarations(path) for path in (ROOT / "crates" / crate / "proofs").rglob("*.antt")}
+    defined = {name: text for found in proofs.values() for name, text in found.items() if name[:1].isupper()}
+    while more := {name for name, text in defined.items() if name not in cited and tokens(text) & cited}:
+        cited |= more
+    return {(file, name) for file, found in proofs.items() for name, text in found.items() if tokens(text) & cited}
+
+
+def refusals(printed):
+    """What a check refused: each theorem with the theorem without which it cannot be checked, or None where it fails by itself."""
+    found = {}
+    for path, name, why in re.findall(r"^(.+?\.antt):\d+:\d+: error: (?:in )?`(\S+)`: (.*)$", printed, re.M):
+        lacks = re.match(r"`(\S+)` was not admitted", why)
+        if "proofs" in Path(path).parts:
+            found.setdefault((Path(path).stem, name), lacks and lacks[1])
+    return found
+
+
+def root(theorem, refused):
+    """The theorem that fails by itself and for whose sake this one is refused; None where it is not refused."""
+    seen = set()
+    while theorem in refused and theorem not in seen:
+        seen.add(theorem)
+        lacks = refused[theorem]
+        if lacks is None:
+            return theorem
+        others = [other for other in refused if other[1] == lacks]
+        theorem = next((other for other in others if other[0] == theorem[0]), others[0] if others else (theorem[0], lacks))
+    return None
