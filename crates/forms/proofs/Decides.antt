@@ -13,7 +13,7 @@ use Rattle.forms.specs.Choice.{if_then_else_, allOf, anyOf}
 use Rattle.forms.specs.Checks.{Check, first}
 use Rattle.forms.specs.Checks.Check.{_when_}
 use Rattle.forms.proofs.Choice.{if-yes}
-use Rattle.forms.specs.Words.{_or_, _and_, Some, IsOneOf, Number, Gives, givable}
+use Rattle.forms.specs.Words.{_or_, _and_, Some, IsOneOf, Number, Gives}
 use Rattle.forms.specs.Words.Number.{_for_}
 
 -- where the test is true the words hold, and where it is false they do not
@@ -286,12 +286,12 @@ one-number (k for P ∷ rest) m n (inr p) (inr q) = one-number rest m n (p .1) (
 pub exactly : (ns : List Number) (m n : ℕ) → Gives ns m → (m ≡ n) ↔ Gives ns n
 exactly ns m n g = ((λ e. subst (Gives ns) e g), one-number ns m n g)
 
--- and it is a number of the table
-pub listed : (ns : List Number) (n : ℕ) → Gives ns n → IsOneOf n (givable ns)
+-- and it is 0 or a number of the table
+pub listed : (ns : List Number) (n : ℕ) → Gives ns n → IsOneOf n (0 ∷ numbersIn ns)
 unfolding Gives
 listed [] n e = inl e
-listed (k for P ∷ rest) n (inl p) = inl (p .1)
-listed (k for P ∷ rest) n (inr p) = inr (listed rest n (p .1))
+listed (k for P ∷ rest) n (inl p) = inr (inl (p .1))
+listed (k for P ∷ rest) n (inr p) = ⊎-map (λ z. z) inr (listed rest n (p .1))
 
 -- ------------------------------------------------------------------ a table of cells, by computation
 

@@ -40,8 +40,3 @@ Otherwise = Unit {0}
 unfoldable pub Gives : List Number → ℕ → Type 0
 Gives [] n = n ≡ 0
 Gives (k for P ∷ rest) n = (P and (n ≡ k)) or ((¬ P) and Gives rest n)
-
--- the numbers that a table can give: those of its rows, and 0
-abbrev pub givable : List Number → List ℕ
-givable [] = 0 ∷ []
-givable (k for P ∷ rest) = k ∷ givable rest

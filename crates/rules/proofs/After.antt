@@ -4,11 +4,11 @@ use Prim.Native.Nat.{ℕ}
 use mathlib.Core.Bool.{false}
 use mathlib.Core.List.{[], _∷_}
 use mathlib.Core.Logic.{_⊎_, inl, inr, ⊎-elim}
-use mathlib.Core.Path.{_≡_, refl}
+use mathlib.Core.Path.{_≡_, refl, sym, _∙_}
 use native.Mathlib.Omega.{arith}
 use Rattle.forms.specs.Words.{Gives}
 use Rattle.forms.proofs.Decides.{first-or-rest, has, not-among}
-use Rattle.rules.specs.Stock.{Whole, Trading, Limit, Paused, Late, Closed, stateOf}
+use Rattle.rules.specs.Stock.{Whole, Waiting, Trading, Limit, Paused, Late, Closed, stateOf}
 use Rattle.rules.specs.Moments.{mark-z, mark-x, mark-p, mark-c, mark-f, fire}
 use Rattle.rules.specs.Messages.{letter-Q, letter-P, letter-X, letter, after}
 use Rattle.rules.specs.Machine.{Event, message, moment, becomes}
@@ -97,3 +97,16 @@ no-mark (O time participant price) e = omega arith
 no-mark (P time participant) e = omega arith
 no-mark (R time participant price) e = omega arith
 no-mark (X time participant price) e = omega arith
+
+-- a stock that is still Waiting was Waiting, and the event started no reference
+pub waited : (h : Whole) (e : Event Message Notice) → CanHappen h e → stateOf (becomes machine h e .stock) ≡ Waiting
+    → ¬ StartsOne h e × (stateOf (h .stock) ≡ Waiting)
+waited h e v w = go (state-after h e v)
+  where
+    go : After h e → ¬ StartsOne h e × (stateOf (h .stock) ≡ Waiting)
+    go (closes c q) = absurd (omega arith)
+    go (pauses p (inl q)) = absurd (omega arith)
+    go (pauses p (inr q)) = absurd (omega arith)
+    go (enters p n q) = absurd (omega arith)
+    go (trades p n l q) = absurd (omega arith)
+    go (stays c p n l q) = ((λ s. l (inl s)), sym q ∙ w)

@@ -13,6 +13,11 @@ use Rattle.forms.specs.Choice.{if_then_else_}
 use Rattle.forms.proofs.Choice.{if-true, if-false, if-arms}
 use Rattle.rules.specs.Machine.{Machine, MachineLaws, Call, tell, settle, message, moment, messages, notices, On, of, Every, History, number, done, event, Lawful, left, Book, stock, numberIn, stepIn, happens, run, log, ByHistory, Alike}
 
+pub of-append : {A : Type 0} (i : ℕ) (xs ys : List (On A)) → of i (xs ++ ys) ≡ of i xs ++ of i ys
+unfolding of
+of-append i [] ys = refl
+of-append i (x ∷ xs) ys = rw (of-append i xs ys) (sym (append-assoc (if eqb i (x .at) then x .it ∷ [] else []) (of i xs) (of i ys)))
+
 module _ (𝓜 : Machine) (L : MachineLaws 𝓜) where
   open Machine 𝓜 using (Stock, Message, Notice, time, date, clock, Due, tells, settles, after, fire, notice)
 
@@ -80,11 +85,6 @@ module _ (𝓜 : Machine) (L : MachineLaws 𝓜) where
   left-cons s (tell m) es = refl
   left-cons s (settle t) es = refl
 
-  of-append : {A : Type 0} (i : ℕ) (xs ys : List (On A)) → of i (xs ++ ys) ≡ of i xs ++ of i ys
-  unfolding of
-  of-append i [] ys = refl
-  of-append i (x ∷ xs) ys = rw (of-append i xs ys) (sym (append-assoc (if eqb i (x .at) then x .it ∷ [] else []) (of i xs) (of i ys)))
-
   module _ (blank : Stock) where
     abbrev at : Book 𝓜 → ℕ → Stock
     at = stock 𝓜 blank
@@ -121,7 +121,7 @@ module _ (𝓜 : Machine) (L : MachineLaws 𝓜) where
         by-number true t = by-stock (in-range (ltb (c .at) (length b)) refl (eqb-true _ _ t)) t (eqb i (c .at)) refl
         by-number false t = nothing (rw (t, if-false) refl) (rw (t, if-false) refl)
 
-    length-step : (b : Book 𝓜) (c : On (Call Message)) → length (stepIn 𝓜 blank b c) ≡ length b
+    pub length-step : (b : Book 𝓜) (c : On (Call Message)) → length (stepIn 𝓜 blank b c) ≡ length b
     unfolding stepIn
     length-step b c = if-arms (λ (x : Book 𝓜). length x ≡ length b) _ (λ _. length-set b (c .at) _) (λ _. refl)
 

@@ -11,16 +11,16 @@ use lib.Dec.{ltb, leb, eqb}
 use lib.ListN.{length}
 use Rattle.forms.specs.Choice.{if_then_else_, anyOf}
 use Rattle.forms.specs.Checks.{first}
-use Rattle.forms.specs.Words.{_or_, _and_, Number, Gives, givable}
+use Rattle.forms.specs.Words.{_or_, _and_, Number, Gives}
 use Rattle.forms.proofs.Choice.{if-true, if-false}
-use Rattle.forms.proofs.Decides.{Decides, words, is-so, stable, either-way, by-lt, by-eq, by-le, skip, take, one-number, exactly, listed as one-listed, within, among}
+use Rattle.forms.proofs.Decides.{Decides, words, is-so, stable, either-way, by-lt, by-eq, by-le, skip, take, one-number, exactly, listed as one-listed, numbersIn, within, among}
 use Rattle.rules.specs.Stock.{Whole, stateOf}
 use Rattle.rules.specs.Quotes.{bandsIn, bestOf}
 use Rattle.rules.specs.Moments.{no-moment}
 use Rattle.rules.specs.Numbers.{badShape, callChecks, tells, settles, reads, answer, zeros, afterTelling, afterSettling, notice, tellAnswer, settleAnswer, readAnswer, setupAnswer, fresh}
 use Rattle.rules.specs.Machine.{numberIn, stock}
 use Rattle.rules.specs.Book.{machine, blank, bookTells, bookSettles, bookReads}
-use Rattle.rules.specs.Words.{IsShape, moments, IsFirst, refusals, settleRefusals, readRefusals, bookRefusals, setupRefusals, ShowsNothing, Shows}
+use Rattle.rules.specs.Words.{IsShape, refusals, settleRefusals, readRefusals, bookRefusals, setupRefusals, ShowsNothing, Shows}
 use Rattle.rules.specs.Demands.{CallsLeave, AnswersShow, BookAnswers, BookNumbersAre, NumbersListed, numbersOf, FreshIs}
 use Rattle.rules.specs.declared.Stock.{Stock}
 use Rattle.rules.specs.declared.Answer.{Answer}
@@ -28,8 +28,6 @@ use Rattle.rules.specs.declared.Notice.{Notice}
 use Rattle.rules.specs.declared.Message.{Message}
 use Rattle.rules.specs.declared.Message.the-variants.{Trade as T, Quote as Q, Opening as O, Pause as P, Reopening as R, Closing as X}
 use Rattle.rules.proofs.BestQuotes.{bands-shown, bid-shown, offer-shown}
-use Rattle.rules.proofs.Coming.{next-first}
-use Rattle.rules.proofs.Lawful.{machineLaws}
 use Rattle.rules.proofs.Numbers.{told, settled, was-read, set-up}
 use Rattle.rules.proofs.Ranges.{shape-is}
 
@@ -65,19 +63,18 @@ abbrev SettleShows : ℕ → Whole → Type 0
 SettleShows time h =
     let a = settleAnswer time h in
     Shows (settles time h) (afterSettling time h .stock) (a .answer)
-    × (settles time h ≡ 0 → IsFirst (a .moment) (moments h))
     × (¬ (settles time h ≡ 0) → a .moment .mark ≡ 0 and a .moment .time ≡ 0)
 
 settle-done : (time : ℕ) (h : Whole) → settles time h ≡ 0 → SettleShows time h
 unfolding notice
 settle-done time h e =
     let k = calls-leave h .1 time .0 e in
-    rw (k .1, k .0, e) (shows-it 0 _, (λ _. next-first h (machineLaws .its-time time h e .0)), (λ z. absurd (z refl)))
+    rw (k .1, k .0, e) (shows-it 0 _, (λ z. absurd (z refl)))
 
 settle-refused : (time : ℕ) (h : Whole) → ¬ (settles time h ≡ 0) → SettleShows time h
 unfolding settleAnswer
 settle-refused time h n =
-    rw (calls-leave h .1 time .1 n, if-false _ _ _ (ne-eqb (settles time h) 0 n)) (shows-it _ _, (λ e. absurd (n e)), (λ _. (refl, refl)))
+    rw (calls-leave h .1 time .1 n, if-false _ _ _ (ne-eqb (settles time h) 0 n)) (shows-it _ _, (λ _. (refl, refl)))
 
 pub shows : AnswersShow
 unfolding tellAnswer readAnswer setupAnswer
@@ -90,7 +87,7 @@ shows h = (
 
 pub fresh-is : FreshIs
 unfolding fresh
-fresh-is end u = (refl, (refl, (refl, (refl, (refl, (refl, ((λ z. omega arith), (refl, (refl, (refl, refl))))))))))
+fresh-is end u = (refl, (refl, (refl, (refl, (refl, (refl, (refl, (refl, (refl, (refl, refl))))))))))
 
 -- ------------------------------------------------------------------ a call on a book
 
@@ -220,7 +217,7 @@ book-numbers end b times prices i n = (
 
 -- ------------------------------------------------------------------ the numbers of each call
 
-numbers-of : (m : Message) (h : Whole) (stocks times prices i : ℕ) → within (givable (bookRefusals stocks times prices i (refusals m h))) (numbersOf m) ≡ true
+numbers-of : (m : Message) (h : Whole) (stocks times prices i : ℕ) → within (0 ∷ numbersIn (bookRefusals stocks times prices i (refusals m h))) (numbersOf m) ≡ true
 numbers-of (T time price) h stocks times prices i = refl
 numbers-of (Q time participant bid offer) h stocks times prices i = refl
 numbers-of (O time participant price) h stocks times prices i = refl
@@ -233,10 +230,10 @@ listed = (
   (λ end b times prices i.
       let h = stock machine (blank end) b i in
       let on = bookRefusals (length b) times prices i in (
-        (λ m. among (givable (on (refusals m h))) (numbersOf m) _ (numbers-of m h (length b) times prices i) (one-listed _ _ (told-on end b times prices i m))),
-        (λ time. among (givable (on (settleRefusals time h))) (0 ∷ 1 ∷ 3 ∷ 4 ∷ 14 ∷ []) _ refl (one-listed _ _ (settled-on end b times prices i time))),
-        among (givable (on (readRefusals h))) (0 ∷ 1 ∷ 3 ∷ []) _ refl (one-listed _ _ (read-on end b times prices i)),
+        (λ m. among (0 ∷ numbersIn (on (refusals m h))) (numbersOf m) _ (numbers-of m h (length b) times prices i) (one-listed _ _ (told-on end b times prices i m))),
+        (λ time. among (0 ∷ numbersIn (on (settleRefusals time h))) (0 ∷ 1 ∷ 3 ∷ 4 ∷ 14 ∷ []) _ refl (one-listed _ _ (settled-on end b times prices i time))),
+        among (0 ∷ numbersIn (on (readRefusals h))) (0 ∷ 1 ∷ 3 ∷ []) _ refl (one-listed _ _ (read-on end b times prices i)),
       )),
   (λ stocks times prices end us.
-      among (givable (setupRefusals stocks times prices end us)) (0 ∷ 1 ∷ 2 ∷ []) _ refl (one-listed _ _ (set-up stocks times prices end us))),
+      among (0 ∷ numbersIn (setupRefusals stocks times prices end us)) (0 ∷ 1 ∷ 2 ∷ []) _ refl (one-listed _ _ (set-up stocks times prices end us))),
 )

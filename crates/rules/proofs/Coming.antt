@@ -43,7 +43,7 @@ abbrev None : List Coming → Type 0
 None cs = ¬ Comes (λ time. Unit {0}) cs
 
 -- none still to come is before the first
-none-before : (m : Moment) (cs : List Coming) → IsFirst m cs → ¬ Comes (λ time. time < m .time) cs
+pub none-before : (m : Moment) (cs : List Coming) → IsFirst m cs → ¬ Comes (λ time. time < m .time) cs
 none-before m [] f k = f
 none-before m (c ∷ cs) (inl f) (inl k) = omega (arith, f .1 .1 .0, k .1)
 none-before m (c ∷ cs) (inl f) (inr k) = f .1 .1 .1 (subst (λ t. Comes (λ time. time < t) cs) (f .1 .1 .0) k)
@@ -51,7 +51,7 @@ none-before m (c ∷ cs) (inr f) (inl k) = omega (arith, f .0 (k .0), k .1)
 none-before m (c ∷ cs) (inr f) (inr k) = none-before m cs (f .1) k
 
 -- what is at some time is at another
-weaker : (At Bt : ℕ → Type 0) (cs : List Coming) → ((time : ℕ) → At time → Bt time) → Comes At cs → Comes Bt cs
+pub weaker : (At Bt : ℕ → Type 0) (cs : List Coming) → ((time : ℕ) → At time → Bt time) → Comes At cs → Comes Bt cs
 weaker At Bt [] w k = k
 weaker At Bt (c ∷ cs) w (inl k) = inl (k .0, w _ (k .1))
 weaker At Bt (c ∷ cs) w (inr k) = inr (weaker At Bt cs w k)

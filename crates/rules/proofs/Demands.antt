@@ -9,7 +9,7 @@ use Rattle.rules.proofs.Coming.{moments-are}
 use Rattle.rules.proofs.Examples.{by-hand, as-printed, at-edges}
 use Rattle.rules.proofs.Few.{few-moments}
 use Rattle.rules.proofs.FirstFive.{one-f}
-use Rattle.rules.proofs.Held.{trades, held-trades}
+use Rattle.rules.proofs.Held.{held-trades}
 use Rattle.rules.proofs.Last.{quotes, clock, last-quotes}
 use Rattle.rules.proofs.Lawful.{machineLaws}
 use Rattle.rules.proofs.Looks.{looked-at}
@@ -20,7 +20,9 @@ use Rattle.rules.proofs.Pauses.{dates, pauses}
 use Rattle.rules.proofs.Resumes.{resumes, never-again}
 use Rattle.rules.proofs.Since.{reference-since}
 use Rattle.rules.proofs.Sound.{never-rubbish}
+use Rattle.rules.proofs.Stories.{calls-step, stories-grow}
 use Rattle.rules.proofs.Trades.{in-bands}
+use Rattle.rules.proofs.Window.{trades}
 
 pub demands : Demands
 demands = record {
@@ -33,6 +35,8 @@ demands = record {
   answers = answers;
   fresh-is = fresh-is;
   by-story = by-story;
+  calls-step = calls-step;
+  stories-grow = stories-grow;
   refused = refused;
   others = others;
   never-rubbish = never-rubbish;

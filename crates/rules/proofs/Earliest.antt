@@ -1,6 +1,6 @@
 -- What the earliest row of a table of moments is.
 -- Assumes nothing.
-use Prim.Native.Nat.{ℕ, _≤_, _<_}
+use Prim.Native.Nat.{_≤_, _<_}
 use mathlib.Core.Bool.{Bool, true, false, true≢false}
 use mathlib.Core.List.{List, [], _∷_}
 use mathlib.Core.Path.{_≡_, refl, sym, ap, _∙_, subst}
@@ -73,11 +73,3 @@ none-before (r ∷ rs) a = go (none-before rs (a .1)) (first-row r rs)
         ((λ _. (is, omega arith)), by (earliest (r ∷ rs)) rs is (λ k. omega (arith, l k)) ih)
     go ih (tail e l) = subst (λ e. Rows (λ m. IsMoment e × (e .time ≤ m .time)) (r ∷ rs)) (sym e)
         ((λ c. let k = l c in (k .0, omega (arith, k .1))), ih)
-
--- a time that is not after the earliest is not after any row still to come
-pub from-rows : (t : ℕ) (rs : List Row) → Rows IsMoment rs → (IsMoment (earliest rs) → t ≤ earliest rs .time) → Rows (λ m. t ≤ m .time) rs
-from-rows t rs a h = go rs (none-before rs a)
-  where
-    go : (qs : List Row) → Rows (λ m. IsMoment (earliest rs) × (earliest rs .time ≤ m .time)) qs → Rows (λ m. t ≤ m .time) qs
-    go [] k = tt
-    go (q ∷ qs) k = ((λ c. let j = k .0 c in omega (arith, h (j .0), j .1)), go qs (k .1))

@@ -3,16 +3,16 @@
 use Prim.Native.Nat.{ℕ, _+_, _≤_, _<_, _-_}
 use mathlib.Core.Bool.{Bool, true, false, true≢false}
 use mathlib.Core.List.{List, [], _∷_, _++_}
-use mathlib.Core.Logic.{_⊎_, inl, inr, ⊎-map}
+use mathlib.Core.Logic.{_⊎_, inl, inr}
 use mathlib.Core.Path.{_≡_, refl, sym, ap, _∙_}
 use native.Mathlib.Omega.{arith}
-use borrow.Author.Tests.{eq-eqb, ne-eqb, leb-true, ltb-true, ltb-false, eqb-true, lt-ltb, le-ltb, le-leb}
+use borrow.Author.Tests.{leb-true, ltb-false, eqb-true, lt-ltb, le-ltb, le-leb}
 use lib.Dec.{lit≤, leb, ltb, eqb}
 use lib.ListN.{length}
 use Rattle.forms.specs.Choice.{if_then_else_, allOf, anyOf}
 use Rattle.forms.proofs.Choice.{if-true, if-false, if-arms, all-tail, all-yes, all-empty, ne-not, all-leb, all-eqb}
 use Rattle.forms.specs.Words.{Gives}
-use Rattle.forms.proofs.Decides.{is-false, either-way, by-eq, past}
+use Rattle.forms.proofs.Decides.{is-false, past}
 use Rattle.rules.specs.Stock.{hold-ended, Trade, Whole, stateOf, clockOf, oldest, figuresOf, staying}
 use Rattle.rules.specs.States.{begin-pause}
 use Rattle.rules.specs.Moments.{mark-v, momentTable, next, effect, windowAfter, come, nextOf, fire}
@@ -20,10 +20,10 @@ use Rattle.rules.specs.Messages.{timeOf, does, after}
 use Rattle.rules.specs.Numbers.{tells, settles, fresh, notice}
 use Rattle.rules.specs.Machine.{message, moment, Lawful, left}
 use Rattle.rules.specs.Book.{machine, Story}
-use Rattle.rules.specs.Changes.{closes, joins, recent, IsNew}
+use Rattle.rules.specs.Changes.{closingMark, joins, recent}
 use Rattle.rules.specs.Readings.{joined}
-use Rattle.rules.specs.Words.{BadTrade, Rubbish, ownRefusals}
-use Rattle.rules.specs.Demands.{leaves, TradesAre, HeldTrades}
+use Rattle.rules.specs.Words.{Rubbish, ownRefusals}
+use Rattle.rules.specs.Demands.{leaves, HeldTrades}
 use Rattle.rules.specs.declared.Stock.{Stock}
 use Rattle.rules.specs.declared.Figures.{Figures}
 use Rattle.rules.specs.declared.Moment.{Moment}
@@ -34,24 +34,11 @@ use Rattle.rules.proofs.Passed.{told, settled, idle}
 use Rattle.rules.proofs.Lawful.{when-due, when-not, machineLaws, next-not-past}
 use Rattle.rules.proofs.Kept.{Stands, look-stands, trading-stands, test-stands, five-stands, trade-stands, quote-stands}
 use Rattle.rules.proofs.Last.{effect-open}
-use Rattle.rules.proofs.Sound.{InOrder, never-rubbish}
+use Rattle.rules.proofs.Sound.{never-rubbish}
 use Rattle.rules.proofs.Numbers.{rubbish-is, settled-sound, taken-words}
-use Rattle.rules.proofs.Ranges.{in-price}
-use Rattle.rules.proofs.Timely.{mark-rows}
+use Rattle.rules.proofs.MomentRows.{mark-rows}
+use Rattle.rules.proofs.Window.{InOrder, window-in-order, staying-recent}
 use native.Mathlib.Decide.{ℕ-discrete}
-
--- ------------------------------------------------------------------ a window that check 1 lets pass
-
-in-order : (clock ahead : ℕ) (w : List Trade) → ¬ BadTrade clock ahead w → InOrder ahead clock w
-in-order clock ahead [] n = tt
-in-order clock ahead (t ∷ w) n =
-    let price = in-price (t .price) (λ k. n (inl (inl k))) in
-    let from : ¬ (t .at < ahead) = λ k. n (inl (inr (inr k))) in
-    let to : ¬ (clock < t .at) = λ k. n (inl (inr (inl k))) in
-    (price, omega arith, omega arith, in-order clock (t .at) w (λ k. n (inr k)))
-
-window-in-order : (h : Whole) → ¬ Rubbish h → InOrder 0 (clockOf (h .stock)) (h .window)
-window-in-order h n = in-order _ 0 (h .window) (λ k. n (inr (inr (inl k))))
 
 -- ------------------------------------------------------------------ recent trades
 
@@ -73,45 +60,6 @@ recent-twice c d h (a ∷ l) =
     if-arms (λ z. recent d z ≡ recent d (a ∷ l)) (ltb c (a .at + 300_000))
     (λ _. ap (λ z. if ltb d (a .at + 300_000) then a ∷ z else z) ih)
     (λ e. ih ∙ sym (if-false _ _ _ (le-ltb d (a .at + 300_000) (omega (arith, ltb-false c (a .at + 300_000) e)))))
-
-module _ (time clock : ℕ) where
-  recent-all : (last : ℕ) (l : List Trade) → InOrder last clock l → time < last + 300_000 → recent time l ≡ l
-  unfolding recent
-  recent-all last [] o h = refl
-  recent-all last (a ∷ l) o h =
-      let k : time < a .at + 300_000 = omega (arith, o .1) in
-      if-true _ _ _ (lt-ltb time (a .at + 300_000) k) ∙ ap (λ z. a ∷ z) (recent-all (a .at) l (o .3) k)
-
-  -- of trades in order those that have left are the first ones
-  staying-recent : (last : ℕ) (l : List Trade) → InOrder last clock l → staying time l ≡ recent time l
-  unfolding staying recent if_then_else_
-  staying-recent last [] o = refl
-  staying-recent last (a ∷ l) o = go (staying-recent (a .at) l (o .3)) (ltb time (a .at + 300_000)) refl
-    where
-      go : staying time l ≡ recent time l → (b : Bool) → ltb time (a .at + 300_000) ≡ b
-          → (if b then a ∷ l else staying time l) ≡ (if b then a ∷ recent time l else recent time l)
-      go ih true e = ap (λ z. a ∷ z) (sym (recent-all (a .at) l (o .3) (ltb-true time (a .at + 300_000) e)))
-      go ih false e = ih
-
--- ------------------------------------------------------------------ the window after an event
-
-moment-trades : (m : Moment) (clock : ℕ) (w : List Trade) → InOrder 0 clock w
-    → IsNew (m .mark ≡ mark-v) (windowAfter m w) (recent (m .time) w) (if closes (m .mark) then [] else w)
-unfolding windowAfter
-moment-trades m clock w o = ⊎-map
-    (λ e. (e, if-true _ _ _ (eq-eqb (m .mark) mark-v e) ∙ staying-recent (m .time) clock 0 w o))
-    (λ n. (n, if-false _ _ _ (ne-eqb (m .mark) mark-v n)))
-    (either-way _ (by-eq (m .mark) mark-v))
-
-pub trades : TradesAre
-unfolding after does fire come notice
-trades h (message (T time price)) v = inr ((λ z. omega arith), refl)
-trades h (message (Q time participant bid offer)) v = inr ((λ z. omega arith), refl)
-trades h (message (O time participant price)) v = inr ((λ z. omega arith), refl)
-trades h (message (P time participant)) v = inr ((λ z. omega arith), refl)
-trades h (message (R time participant price)) v = inr ((λ z. omega arith), refl)
-trades h (message (X time participant price)) v = inr ((λ z. omega arith), refl)
-trades h (moment n) v = rw (v .1) (moment-trades (nextOf h) _ (h .window) (window-in-order h (settled-sound (v .0 .0) h (v .0 .1))))
 
 -- ------------------------------------------------------------------ a stock to which something happens is not closed
 
@@ -152,7 +100,7 @@ pause-low : (s : Stock) → Low (begin-pause s)
 unfolding begin-pause
 pause-low s = if-arms (λ n. n ≤ 4) _ (λ _. lit≤ tt) (λ _. lit≤ tt)
 
-effect-low : (mark : ℕ) (f : Figures) (s : Stock) → closes mark ≡ false → Low s → Low (effect mark f s)
+effect-low : (mark : ℕ) (f : Figures) (s : Stock) → closingMark mark ≡ false → Low s → Low (effect mark f s)
 effect-low mark f s e l =
     effect-open Low mark f s e (look-stands stands-low s l) (pause-low s) (trading-stands stands-low _ s l) (test-stands stands-low f s l)
     (five-stands stands-low f s l) (test-stands stands-low f (hold-ended s) l)
@@ -196,11 +144,11 @@ message-holds m h l i e =
     go (X t j a) k = (t, omega arith, refl)
 
 moment-window : (m : Moment) (clock cut : ℕ) (w l : List Trade) → InOrder 0 clock w → cut ≤ m .time → w ≡ recent cut l
-    → (d : ℕ) × (d ≤ m .time) × (windowAfter m w ≡ recent d (if closes (m .mark) then [] else l))
+    → (d : ℕ) × (d ≤ m .time) × (windowAfter m w ≡ recent d (if closingMark (m .mark) then [] else l))
 unfolding windowAfter recent if_then_else_ anyOf
-moment-window m clock cut w l o by held = go (eqb (m .mark) mark-v) refl (closes (m .mark)) refl
+moment-window m clock cut w l o by held = go (eqb (m .mark) mark-v) refl (closingMark (m .mark)) refl
   where
-    go : (v : Bool) → eqb (m .mark) mark-v ≡ v → (c : Bool) → closes (m .mark) ≡ c
+    go : (v : Bool) → eqb (m .mark) mark-v ≡ v → (c : Bool) → closingMark (m .mark) ≡ c
         → (d : ℕ) × (d ≤ m .time) × ((if v then staying (m .time) w else if c then [] else w) ≡ recent d (if c then [] else l))
     go true p true q = absurd (true≢false (sym q ∙ rw (eqb-true (m .mark) mark-v p)))
     go true p false q =
@@ -217,11 +165,11 @@ moment-holds t h l i e =
       cut = r .0;
       cut-by = omega (arith, machineLaws .at-moment h, r .1);
       held = r .2;
-      live = live (r .0) (r .2) (closes (nextOf h .mark)) refl;
+      live = live (r .0) (r .2) (closingMark (nextOf h .mark)) refl;
     }
   where
-    live : (d : ℕ) → fire h .window ≡ recent d (if closes (nextOf h .mark) then [] else l)
-        → (c : Bool) → closes (nextOf h .mark) ≡ c → Low (fire h .stock) ⊎ (fire h .window ≡ [])
+    live : (d : ℕ) → fire h .window ≡ recent d (if closingMark (nextOf h .mark) then [] else l)
+        → (c : Bool) → closingMark (nextOf h .mark) ≡ c → Low (fire h .stock) ⊎ (fire h .window ≡ [])
     live d w true q = inr (w ∙ rw q)
     live d w false q = inl (effect-low _ _ _ q (moment-low h (when-due t (nextOf h) (settled t h e .due) .0)))
 

@@ -19,7 +19,7 @@ use Rattle.rules.specs.Messages.{letter-Q, with-quote, does, after}
 use Rattle.rules.specs.Numbers.{fresh, notice}
 use Rattle.rules.specs.Machine.{Event, message, moment, Lawful, left, becomes}
 use Rattle.rules.specs.Book.{machine, Story}
-use Rattle.rules.specs.Changes.{letterOf, closes, quoteBy, Quoted, Closes}
+use Rattle.rules.specs.Changes.{letterOf, closingMark, quoteBy, Quoted, Closes}
 use Rattle.rules.specs.Readings.{lastQuote}
 use Rattle.rules.specs.Demands.{CanHappen, QuotesAre, ClockIs, LastQuotes}
 use Rattle.rules.specs.declared.Quotes.{Quotes}
@@ -39,9 +39,9 @@ clock end u es a =
     let k = kept-left (fresh end u) es (a .lawful) in
     (ap (λ k. k .0) k, ap (λ k. k .1) k, ap (λ k. k .2) k)
 
--- ------------------------------------------------------------------ a moment that closes, and one that does not
+-- ------------------------------------------------------------------ a moment that closingMark, and one that does not
 
-closing-mark : (mark : ℕ) → closes mark ≡ true → (mark ≡ mark-z) ⊎ (mark ≡ mark-c)
+closing-mark : (mark : ℕ) → closingMark mark ≡ true → (mark ≡ mark-z) ⊎ (mark ≡ mark-c)
 closing-mark mark e = go (eqb mark mark-z) refl (eqb mark mark-c) refl
   where
     go : (a : Bool) → eqb mark mark-z ≡ a → (b : Bool) → eqb mark mark-c ≡ b → (mark ≡ mark-z) ⊎ (mark ≡ mark-c)
@@ -49,7 +49,7 @@ closing-mark mark e = go (eqb mark mark-z) refl (eqb mark mark-c) refl
     go false p true q = inr (eqb-true mark mark-c q)
     go false p false q = absurd (true≢false (sym e ∙ any-not _ _ p (any-not _ _ q any-empty)))
 
-effect-closing : (mark : ℕ) (f : Figures) (s : Stock) → closes mark ≡ true → effect mark f s ≡ shut s
+effect-closing : (mark : ℕ) (f : Figures) (s : Stock) → closingMark mark ≡ true → effect mark f s ≡ shut s
 unfolding effect if_then_else_
 effect-closing mark f s e = go (closing-mark mark e)
   where
@@ -58,7 +58,7 @@ effect-closing mark f s e = go (closing-mark mark e)
     go (inr p) = rw p
 
 -- what each of the other effects gives, a moment that does not close gives
-pub effect-open : (F : Stock → Type 0) (mark : ℕ) (f : Figures) (s : Stock) → closes mark ≡ false → F (look s) → F (begin-pause s)
+pub effect-open : (F : Stock → Type 0) (mark : ℕ) (f : Figures) (s : Stock) → closingMark mark ≡ false → F (look s) → F (begin-pause s)
     → F (begin-trading (s .reference .price) s) → F (test f s) → F (first-five f s) → F (test f (hold-ended s)) → F (effect mark f s)
 effect-open F mark f s e w x p v five h =
     effect-by F mark f s (λ z. absurd (eqb-false mark _ (any-head _ _ e) z)) (λ _. w) (λ _. x) (λ _. p)
@@ -111,11 +111,11 @@ does-quoted (R t j a) h i last l k = trading-stands (stands-quotes (λ q. Quoted
 does-quoted (X t j a) h i last l k = none-quoted i l
 
 effect-quoted : (mark : ℕ) (f : Figures) (s : Stock) (i : ℕ) (last : ℕ × ℕ) → i ≤ 15 → Quoted i (s .quotes) last
-    → Quoted i (effect mark f s .quotes) (if closes mark then (0, 0) else last)
+    → Quoted i (effect mark f s .quotes) (if closingMark mark then (0, 0) else last)
 unfolding shut begin-pause
 effect-quoted mark f s i last l k =
     let stands = stands-quotes (λ q. Quoted i q last) in
-    if-arms (Quoted i (effect mark f s .quotes)) (closes mark)
+    if-arms (Quoted i (effect mark f s .quotes)) (closingMark mark)
     (λ e. rw (effect-closing mark f s e) (none-quoted i l))
     (λ e. effect-open (λ r. Quoted i (r .quotes) last) mark f s e (look-stands stands s k) k (trading-stands stands _ s k) (test-stands stands f s k)
     (five-stands stands f s k) (test-stands stands f (hold-ended s) k))
@@ -138,7 +138,7 @@ quotes-stay h (message (X t i a)) v c q = absurd (c (inl refl))
 quotes-stay h (moment n) v c q =
     let k = stands-quotes (λ q. q ≡ h .stock .quotes) in
     let same : n .moment .mark ≡ nextOf h .mark = ap (λ n. n .moment .mark) (v .1) in
-    let not-closing : closes (nextOf h .mark) ≡ false = any-not _ _ (ne-eqb _ _ (λ z. c (inr (inl (same ∙ z)))))
+    let not-closing : closingMark (nextOf h .mark) ≡ false = any-not _ _ (ne-eqb _ _ (λ z. c (inr (inl (same ∙ z)))))
     (any-not _ _ (ne-eqb _ _ (λ z. c (inr (inr (inl (same ∙ z)))))) any-empty) in
     effect-open (λ s. s .quotes ≡ h .stock .quotes) (nextOf h .mark) _ _ not-closing (look-stands k _ refl) refl (trading-stands k _ _ refl) (test-stands k _ _ refl)
     (five-stands k _ _ refl) (test-stands k _ _ refl)

@@ -6,6 +6,7 @@ pub mod Kept
 pub mod Passed
 pub mod Lawful
 pub mod Books
+pub mod Stories
 pub mod Events
 pub mod MomentRows
 pub mod Timely
@@ -19,6 +20,7 @@ pub mod PausedSince
 pub mod Resumes
 pub mod Last
 pub mod Held
+pub mod Window
 pub mod BestQuotes
 pub mod Ranges
 pub mod Coming

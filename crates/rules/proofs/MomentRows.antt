@@ -60,6 +60,11 @@ rows f s =
     second : (a b : Bool) (bs : List Bool) → allOf (a ∷ b ∷ bs) ≡ true → b ≡ true
     second a b bs on = all-head _ _ (all-tail _ _ on)
 
+-- and each row has a mark
+pub mark-rows : (f : Figures) (s : Stock) → Rows IsMoment (momentTable f s)
+unfolding momentTable
+mark-rows f s = omega arith
+
 -- ------------------------------------------------------------------ the moment that happens
 
 -- what is so of each row still to come is so of the earliest moment

@@ -1,9 +1,9 @@
 -- Every call gives the number that the words give, and no other.
 -- Assumes nothing.
-use Prim.Native.Nat.{ℕ, _<_}
+use Prim.Native.Nat.{ℕ, _≤_, _<_}
 use mathlib.Core.Bool.{false, not}
 use mathlib.Core.List.{List, [], _∷_}
-use mathlib.Core.Logic.{inl, ⊎-elim}
+use mathlib.Core.Logic.{inl, inr, ⊎-elim}
 use mathlib.Core.Path.{_≡_, refl}
 use native.Mathlib.Omega.{arith}
 use lib.Dec.{eqb}
@@ -11,10 +11,10 @@ use lib.ListN.{length}
 use Rattle.forms.specs.Choice.{if_then_else_, anyOf}
 use Rattle.forms.specs.Checks.{first}
 use Rattle.forms.specs.Checks.Check.{_when_}
-use Rattle.forms.specs.Words.{_or_, Number, Gives, givable}
+use Rattle.forms.specs.Words.{_or_, Number, Gives}
 use Rattle.forms.specs.Words.Number.{_for_}
-use Rattle.forms.proofs.Decides.{Decides, words, by-lt, row, passed-over, own-table, choices, numbers as tables, exactly, listed, first-or-rest, past, below, cells, has, not-among}
-use Rattle.rules.specs.Stock.{Whole, Waiting, Trading, Paused, Late, Closed, stateOf}
+use Rattle.forms.proofs.Decides.{Decides, words, eq-stable, by-lt, row, passed-over, own-table, choices, numbers as tables, exactly, listed, first-or-rest, past, below, cells, numbersIn, has, not-among}
+use Rattle.rules.specs.Stock.{Whole, Waiting, Trading, Limit, Paused, Late, Closed, stateOf}
 use Rattle.rules.specs.Messages.{kind, timeOf, taken}
 use Rattle.rules.specs.Numbers.{rubbish, notPrimary, ownChecks, tableCheck, messageChecks, checks, tells, timeChecks, settleChecks, settles, readChecks, reads, setupChecks, setsUp}
 use Rattle.rules.specs.Machine.{stock}
@@ -142,11 +142,45 @@ taken-words m h e =
 pub settled-sound : (time : ℕ) (h : Whole) → settles time h ≡ 0 → ¬ Rubbish h
 settled-sound time h e = past 1 0 _ _ (λ z. omega arith) (numbers h 0 .1 time .0 e) .0
 
+-- the states that take a message
+abbrev pub Takes : Message → ℕ → Type 0
+Takes (T time price) state = state ≤ Limit
+Takes (Q time participant bid offer) state = state ≤ Late
+Takes (O time participant price) state = state ≡ Waiting
+Takes (P time participant) state = state ≡ Trading
+Takes (R time participant price) state = state ≡ Paused
+Takes (X time participant price) state = state ≡ Late
+
+pub takes-in : (m : Message) (h : Whole) → tells m h ≡ 0 → Takes m (stateOf (h .stock))
+takes-in m h e = go m (taken-words m h e .own-passed)
+  where
+    state : ℕ
+    state = stateOf (h .stock)
+
+    low : state < 6
+    low = state-below h (taken-words m h e .sound)
+
+    primary : (A B : Type 0) (there : ℕ) (rest : List Number) → Gives (8 for A ∷ 7 for B ∷ 9 for (¬ (state ≡ there)) ∷ rest) 0 → state ≡ there
+    primary A B there rest g = eq-stable _ _ .undenied (past 9 0 _ _ (λ z. omega arith) (past 7 0 _ _ (λ z. omega arith) (past 8 0 _ _ (λ z. omega arith) g .1) .1) .0)
+
+    go : (m : Message) → Gives (ownRefusals m h) 0 → Takes m state
+    go (T time price) g =
+        let a = past 7 0 _ _ (λ z. omega arith) g in
+        let b = past 11 0 _ _ (λ z. omega arith) (a .1) .0 in
+        let c : ¬ (state ≡ Paused) = λ k. b (inl k) in
+        let d : ¬ (state ≡ Late) = λ k. b (inr k) in
+        omega (arith, low)
+    go (Q time participant bid offer) g = omega (arith, low, past 7 0 _ _ (λ z. omega arith) g .0)
+    go (O time participant price) g = primary _ _ _ _ g
+    go (P time participant) g = primary _ _ _ _ g
+    go (R time participant price) g = primary _ _ _ _ g
+    go (X time participant price) g = primary _ _ _ _ g
+
 -- ------------------------------------------------------------------ where a call on a stock gives 1
 
 -- the rows behind the first do not give it
-only-first : (n : ℕ) (A : Type 0) (rest : List Number) → has (givable rest) n ≡ false → Gives (n for A ∷ rest) n → A
-only-first n A rest none g = ⊎-elim (λ k. k .0) (λ k. absurd (not-among (givable rest) n n refl none (listed rest n (k .1)))) (first-or-rest n n A rest g)
+only-first : (n : ℕ) (A : Type 0) (rest : List Number) → has (0 ∷ numbersIn rest) n ≡ false → Gives (n for A ∷ rest) n → A
+only-first n A rest none g = ⊎-elim (λ k. k .0) (λ k. absurd (not-among (0 ∷ numbersIn rest) n n refl none (listed rest n (k .1)))) (first-or-rest n n A rest g)
 
 pub told-1 : (m : Message) (h : Whole) → tells m h ≡ 1 → Rubbish h
 told-1 (T time price) h e = only-first 1 _ _ refl (numbers h 1 .0 (T time price) .0 e)

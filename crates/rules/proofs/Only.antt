@@ -29,10 +29,10 @@ use Rattle.rules.specs.declared.Message.the-variants.{Trade as T, Quote 
 use Rattle.rules.proofs.After.{AfterAs, closes, pauses, enters, trades, stays, after-given}
 use Rattle.rules.proofs.BestQuotes.{at-band-is, crossed-is}
 use Rattle.rules.proofs.Changed.{states, reference, kept}
-use Rattle.rules.proofs.Held as held
 use Rattle.rules.proofs.Last as last
 use Rattle.rules.proofs.Means.{only-mean}
 use Rattle.rules.proofs.Since.{of-fields}
+use Rattle.rules.proofs.Window as window
 
 -- ------------------------------------------------------------------ one thing at a time
 
@@ -214,4 +214,4 @@ changes-only h e v bids offers h′ w q r g k =
     (one-new (k .1 .1 .1 .1 .1) (k″ .1 .1 .1 .1 .1))
     (one-new entry (k″ .1 .1 .1 .0))
     (one-new (k .1 .1 .1 .1 .0) (k″ .1 .1 .1 .1 .0)) in
-    whole-of h′ (stock-of s (k .1 .0 ∙ sym (k″ .1 .0)) (k .1 .1 .0 ∙ sym (k″ .1 .1 .0)) course same-reference same-quotes) (one-new w (held.trades h e v))
+    whole-of h′ (stock-of s (k .1 .0 ∙ sym (k″ .1 .0)) (k .1 .1 .0 ∙ sym (k″ .1 .1 .0)) course same-reference same-quotes) (one-new w (window.trades h e v))

@@ -8,7 +8,7 @@ use native.Mathlib.Omega.{arith}
 use Rattle.forms.proofs.Decides.{past, eq-stable}
 use Rattle.rules.specs.Stock.{Whole, Paused, Late, Closed, stateOf, figuresOf}
 use Rattle.rules.specs.Moments.{mark-w, mark-p, mark-v, mark-h}
-use Rattle.rules.specs.Numbers.{tells, fresh}
+use Rattle.rules.specs.Numbers.{fresh}
 use Rattle.rules.specs.Machine.{Event, message, moment, Lawful, becomes, left}
 use Rattle.rules.specs.Book.{machine, Story}
 use Rattle.rules.specs.Demands.{leaves, CanHappen, PausesEnd, NeverAgain}
@@ -20,14 +20,8 @@ use Rattle.rules.proofs.After.{quiet, quiet-quote, closed-by}
 use Rattle.rules.proofs.Events.{first-lawful, rest-lawful}
 use Rattle.rules.proofs.Last.{clock}
 use Rattle.rules.proofs.MomentRows.{IsRow, row-z, row-w-early, row-w-late, row-x, row-p, row-c, row-v, row-f, row-h, notice-row}
-use Rattle.rules.proofs.Numbers.{taken-words}
-use Rattle.rules.proofs.Passed.{told}
+use Rattle.rules.proofs.Numbers.{taken-words, takes-in}
 use Rattle.rules.proofs.PausedSince.{paused-since, no-pause}
-use Rattle.rules.proofs.Timely.{Takes, takes}
-
--- the states that take an accepted message
-taken-in : (m : Message) (h : Whole) → tells m h ≡ 0 → Takes m (stateOf (h .stock))
-taken-in m h e = takes m _ (told m h e .state-takes)
 
 -- ------------------------------------------------------------------ from Paused
 
@@ -52,10 +46,10 @@ by-moment h n v s (row-h k t a b c) = inl (quiet h n v (λ t. omega arith) mark-
 
 -- an event, whatever story came before it
 by-event : (h : Whole) (e : Event Message Notice) → CanHappen h e → stateOf (h .stock) ≡ Paused → Resumed (h .stock .setup) h e
-by-event h (message (T time price)) v s = absurd (omega (arith, taken-in (T time price) h (v .0)))
+by-event h (message (T time price)) v s = absurd (omega (arith, takes-in (T time price) h (v .0)))
 by-event h (message (Q time participant bid offer)) v s = inl (quiet-quote time participant bid offer h v (λ t. omega arith) (λ l. omega arith) ∙ s)
-by-event h (message (O time participant price)) v s = absurd (omega (arith, taken-in (O time participant price) h (v .0)))
-by-event h (message (P time participant)) v s = absurd (omega (arith, taken-in (P time participant) h (v .0)))
+by-event h (message (O time participant price)) v s = absurd (omega (arith, takes-in (O time participant price) h (v .0)))
+by-event h (message (P time participant)) v s = absurd (omega (arith, takes-in (P time participant) h (v .0)))
 by-event h (message (R time participant price)) v s =
     let a = past 8 0 _ _ (λ z. omega arith) (taken-words (R time participant price) h (v .0) .own-passed) in
     let b = past 7 0 _ _ (λ z. omega arith) (a .1) in
@@ -63,7 +57,7 @@ by-event h (message (R time participant price)) v s =
     let soon = past 10 0 _ _ (λ z. omega arith) (c .1) .0 in
     let primary = eq-stable participant (h .stock .setup .primary) .undenied (a .0) in
     inr (inl (time, price, ap (λ p. message (R time p price)) primary, omega arith))
-by-event h (message (X time participant price)) v s = absurd (omega (arith, taken-in (X time participant price) h (v .0)))
+by-event h (message (X time participant price)) v s = absurd (omega (arith, takes-in (X time participant price) h (v .0)))
 by-event h (moment n) v s = by-moment h n v s (notice-row h n v)
 
 pub resumes : PausesEnd
@@ -93,12 +87,12 @@ late-moment h n v s (row-v k t a c) = inl (quiet h n v (λ t. omega arith) mark-
 late-moment h n v s (row-f k t a c) = absurd (omega arith)
 late-moment h n v s (row-h k t a b c) = inl (quiet h n v (λ t. omega arith) mark-h k refl refl .1 ∙ s)
 
-late-event : (h : Whole) (e : Event Message Notice) → CanHappen h e → stateOf (h .stock) ≡ Late → Over (stateOf (becomes machine h e .stock))
-late-event h (message (T time price)) v s = absurd (omega (arith, taken-in (T time price) h (v .0)))
+pub late-event : (h : Whole) (e : Event Message Notice) → CanHappen h e → stateOf (h .stock) ≡ Late → Over (stateOf (becomes machine h e .stock))
+late-event h (message (T time price)) v s = absurd (omega (arith, takes-in (T time price) h (v .0)))
 late-event h (message (Q time participant bid offer)) v s = inl (quiet-quote time participant bid offer h v (λ t. omega arith) (λ l. omega arith) ∙ s)
-late-event h (message (O time participant price)) v s = absurd (omega (arith, taken-in (O time participant price) h (v .0)))
-late-event h (message (P time participant)) v s = absurd (omega (arith, taken-in (P time participant) h (v .0)))
-late-event h (message (R time participant price)) v s = absurd (omega (arith, taken-in (R time participant price) h (v .0)))
+late-event h (message (O time participant price)) v s = absurd (omega (arith, takes-in (O time participant price) h (v .0)))
+late-event h (message (P time participant)) v s = absurd (omega (arith, takes-in (P time participant) h (v .0)))
+late-event h (message (R time participant price)) v s = absurd (omega (arith, takes-in (R time participant price) h (v .0)))
 late-event h (message (X time participant price)) v s = inr (closed-by h (message (X time participant price)) v (inl refl))
 late-event h (moment n) v s = late-moment h n v s (notice-row h n v)
 
@@ -114,13 +108,13 @@ closed-moment h n s (row-v k t a c) = omega arith
 closed-moment h n s (row-f k t a c) = omega arith
 closed-moment h n s (row-h k t a b c) = omega arith
 
-closed-event : (h : Whole) (e : Event Message Notice) → CanHappen h e → ¬ (stateOf (h .stock) ≡ Closed)
-closed-event h (message (T time price)) v s = omega (arith, taken-in (T time price) h (v .0))
-closed-event h (message (Q time participant bid offer)) v s = omega (arith, taken-in (Q time participant bid offer) h (v .0))
-closed-event h (message (O time participant price)) v s = omega (arith, taken-in (O time participant price) h (v .0))
-closed-event h (message (P time participant)) v s = omega (arith, taken-in (P time participant) h (v .0))
-closed-event h (message (R time participant price)) v s = omega (arith, taken-in (R time participant price) h (v .0))
-closed-event h (message (X time participant price)) v s = omega (arith, taken-in (X time participant price) h (v .0))
+pub closed-event : (h : Whole) (e : Event Message Notice) → CanHappen h e → ¬ (stateOf (h .stock) ≡ Closed)
+closed-event h (message (T time price)) v s = omega (arith, takes-in (T time price) h (v .0))
+closed-event h (message (Q time participant bid offer)) v s = omega (arith, takes-in (Q time participant bid offer) h (v .0))
+closed-event h (message (O time participant price)) v s = omega (arith, takes-in (O time participant price) h (v .0))
+closed-event h (message (P time participant)) v s = omega (arith, takes-in (P time participant) h (v .0))
+closed-event h (message (R time participant price)) v s = omega (arith, takes-in (R time participant price) h (v .0))
+closed-event h (message (X time participant price)) v s = omega (arith, takes-in (X time participant price) h (v .0))
 closed-event h (moment n) v s = closed-moment h n s (notice-row h n v)
 
 pub never-again : NeverAgain

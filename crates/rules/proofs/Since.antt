@@ -1,11 +1,12 @@
 -- The reference that a story leaves was started by an event of it, whose date is its start, and none was started since.
 -- Assumes nothing.
-use Prim.Native.Nat.{ℕ}
+use Prim.Native.Nat.{ℕ, zero, suc, _≤_}
 use mathlib.Core.List.{[], _∷_}
 use mathlib.Core.Logic.{_⊎_, inl, inr}
 use mathlib.Core.Path.{_≡_, refl, sym, subst, _∙_}
 use native.Mathlib.Omega.{arith}
-use Rattle.rules.specs.Stock.{Whole, Waiting, stateOf}
+use Rattle.forms.specs.Words.{_or_}
+use Rattle.rules.specs.Stock.{Whole, Waiting, Late, Closed, stateOf}
 use Rattle.rules.specs.Moments.{mark-h}
 use Rattle.rules.specs.Numbers.{fresh}
 use Rattle.rules.specs.Machine.{Lawful, becomes, left}
@@ -13,10 +14,12 @@ use Rattle.rules.specs.Book.{machine, Story}
 use Rattle.rules.specs.Changes.{letterOf, IsNew, Starts, ReferenceAfter}
 use Rattle.rules.specs.Readings.{NoneStarted, StartedBy}
 use Rattle.rules.specs.Demands.{leaves, ReferenceSince}
+use Rattle.rules.specs.declared.Stock.{Stock}
 use Rattle.rules.specs.declared.Reference.{Reference}
-use Rattle.rules.proofs.After.{After, closes, pauses, enters, trades, stays, state-after}
+use Rattle.rules.proofs.After.{waited}
 use Rattle.rules.proofs.Changed.{reference}
 use Rattle.rules.proofs.Events.{first-lawful, rest-lawful}
+use Rattle.rules.proofs.Sound.{Sane, started-price, event-sane, sane-left, fresh-sane}
 
 -- a reference with the price and the start of another, whose hold has not begun again
 abbrev Keeps : Reference → Reference → Type 0
@@ -49,28 +52,53 @@ pub of-fields : {price start hold : ℕ} (r : Reference) → r .price ≡ price 
     → r ≡ record { price = price; start = start; hold = hold }
 of-fields r p s h = rw (← p, ← s, ← h)
 
+-- the price of a reference that was started is one
+priced : (h : Whole) (es : Story) (price start : ℕ) → Lawful machine h es → Sane h → StartedBy price start h es → 1 ≤ price
+priced h (e ∷ es) price start v i (inl k) = started-price h e price (first-lawful h e es v) i (k .1) .0
+priced h (e ∷ es) price start v i (inr k) =
+    priced (becomes machine h e) es price start (rest-lawful h e es v) (event-sane h e (first-lawful h e es v) i) k
+
 -- a stock that is still Waiting: no event has started a reference
-waited : (h : Whole) (es : Story) → Lawful machine h es → stateOf (left machine h es .stock) ≡ Waiting → NoneStarted h es × (stateOf (h .stock) ≡ Waiting)
-waited h [] v w = (tt, w)
-waited h (e ∷ es) v w = go (waited (becomes machine h e) es (rest-lawful h e es v) w) (state-after h e (first-lawful h e es v))
-  where
-    go : NoneStarted (becomes machine h e) es × (stateOf (becomes machine h e .stock) ≡ Waiting) → After h e
-        → NoneStarted h (e ∷ es) × (stateOf (h .stock) ≡ Waiting)
-    go k (closes c q) = absurd (omega (arith, k .1))
-    go k (pauses p (inl q)) = absurd (omega (arith, k .1))
-    go k (pauses p (inr q)) = absurd (omega (arith, k .1))
-    go k (enters p n q) = absurd (omega (arith, k .1))
-    go k (trades p n l q) = absurd (omega (arith, k .1))
-    go k (stays c p n l q) = (((λ s. l (inl s)), k .0), sym q ∙ k .1)
+none-waiting : (h : Whole) (es : Story) → Lawful machine h es → stateOf (left machine h es .stock) ≡ Waiting → NoneStarted h es × (stateOf (h .stock) ≡ Waiting)
+none-waiting h [] v w = (tt, w)
+none-waiting h (e ∷ es) v w =
+    let k = none-waiting (becomes machine h e) es (rest-lawful h e es v) w in
+    let j = waited h e (first-lawful h e es v) (k .1) in
+    ((j .0, k .0), j .1)
+
+-- and then none is there
+started-once : (h : Whole) (es : Story) (price start : ℕ) → NoneStarted h es → ¬ StartedBy price start h es
+started-once h (e ∷ es) price start n (inl k) = n .0 (price, k .1)
+started-once h (e ∷ es) price start n (inr k) = started-once (becomes machine h e) es price start (n .1) k
+
+-- the first state and the last are those that need no reference
+first-or-last : (n : ℕ) → n ≤ Closed → (1 ≤ n → ¬ (n ≤ Late)) → n ≡ Waiting or n ≡ Closed
+first-or-last zero l k = inl refl
+first-or-last (suc n) l k = let a = k (omega arith) in inr (omega arith)
 
 pub reference-since : ReferenceSince
 unfolding fresh
-reference-since end u es a = (go (lasted (fresh end u) es (a .lawful)), λ w. waited (fresh end u) es (a .lawful) w .0)
+reference-since end u es a = go (lasted (fresh end u) es (a .lawful))
   where
+    s : Stock
+    s = leaves end u es .stock
+
     r : Reference
-    r = leaves end u es .stock .reference
+    r = s .reference
+
+    sane : Sane (fresh end u)
+    sane = fresh-sane end u (a .end-ok) (a .setup-ok)
+
+    idle : r .price ≡ 0 → stateOf s ≡ Waiting or stateOf s ≡ Closed
+    idle z = let i = sane-left es (fresh end u) sane (a .lawful) .stock in
+        first-or-last (stateOf s) (i .ranges .state-by) (λ j k. let p = i .priced j k in omega arith)
 
     go : Lasted r (fresh end u) es
-        → (NoneStarted (fresh end u) es × (r ≡ record { price = 0; start = 0; hold = 0 })) ⊎ StartedBy (r .price) (r .start) (fresh end u) es
-    go (inl k) = inl (k .0, of-fields r (k .1 .0) (k .1 .1) (k .1 .2 refl))
-    go (inr k) = inr k
+        → (NoneStarted (fresh end u) es × (r ≡ record { price = 0; start = 0; hold = 0 }) × (stateOf s ≡ Waiting or stateOf s ≡ Closed))
+        ⊎ (StartedBy (r .price) (r .start) (fresh end u) es × (1 ≤ r .price) × ¬ (stateOf s ≡ Waiting))
+    go (inl k) = inl (k .0, of-fields r (k .1 .0) (k .1 .1) (k .1 .2 refl), idle (k .1 .0))
+    go (inr k) = inr (
+      k,
+      priced (fresh end u) es (r .price) (r .start) (a .lawful) sane k,
+      λ w. started-once (fresh end u) es (r .price) (r .start) (none-waiting (fresh end u) es (a .lawful) w .0) k,
+    )

@@ -1,46 +1,42 @@
 -- Whatever has happened since a setup in range, a stock is not rubbish.
 -- Assumes nothing.
 use Prim.Native.Nat.{ℕ, zero, suc, _+_, _*_, _≤_, _<_}
-use mathlib.Core.List.{List, [], _∷_, _++_, foldl}
+use mathlib.Core.List.{List, [], _∷_}
 use mathlib.Core.Logic.{inl, inr, ⊎-elim}
-use mathlib.Core.Path.{_≡_, ap}
-use native.Mathlib.Nat.{le-refl}
+use mathlib.Core.Path.{_≡_, refl, sym, subst}
+use native.Mathlib.Nat.{le-refl, mul-le-mul-right}
 use native.Mathlib.Omega.{arith}
-use borrow.Author.Tests.{eqb-true, eqb-false, not-true}
-use lib.ListN.{length, length-append, set, replicate}
-use Rattle.forms.specs.Words.{Some}
-use Rattle.forms.proofs.Choice.{if-arms, all-head, all-tail}
-use Rattle.forms.proofs.Decides.{past}
-use Rattle.band.proofs.Laws.{mean-least, mean-most}
-use Rattle.rules.specs.Stock.{Trade, Whole, Trading, Limit, Paused, Late, Closed, stateOf, clockOf, at-time, enter-pause, not-early, refer-to, total, figuresOf, noTrades, meanIn, staying}
-use Rattle.rules.specs.States.{look, begin-trading, leave, test, begin-pause, shut}
-use Rattle.rules.specs.Moments.{first-five, effect, windowAfter, come, nextOf, fire}
-use Rattle.rules.specs.Messages.{timeOf, tradeRules, quoteRules, with-quote, does, after}
-use Rattle.rules.specs.Numbers.{tells, settles, fresh}
-use Rattle.rules.specs.Machine.{Every, message, moment, Lawful, left}
+use lib.ListN.{length, getD, length-append, replicate}
+use Rattle.forms.specs.Words.{_or_, Some}
+use Rattle.forms.proofs.Choice.{if-arms}
+use Rattle.forms.proofs.Decides.{eq-stable, not-among, past}
+use Rattle.rules.specs.Stock.{Trade, Whole, Late, Closed, stateOf, clockOf, staying}
+use Rattle.rules.specs.Moments.{mark-x, fire}
+use Rattle.rules.specs.Messages.{letter-T, letter-Q, letter-O, letter-P, letter-R, letter-X}
+use Rattle.rules.specs.Numbers.{settles, notice, fresh}
+use Rattle.rules.specs.Machine.{Every, Event, message, moment, dated, Lawful, becomes, left}
 use Rattle.rules.specs.Book.{machine, Story}
-use Rattle.rules.specs.Words.{IsPrice, IsSide, IsEnd, IsSetup, BadTime, BadReference, BadTrade, BadStock, Rubbish}
-use Rattle.rules.specs.Demands.{leaves, NeverRubbish}
+use Rattle.rules.specs.Words.{IsPrice, IsSide, IsEnd, IsSetup, sumOf, IsMean, Coming, moments, IsFirst, BadTime, BadReference, BadStock, Rubbish}
+use Rattle.rules.specs.Changes.{IsNew, joins, recent, quoteBy, Quoted, TradesAfter, Starts, StartsOne, ReferenceAfter, StartsPause, Looks, KeptAfter}
+use Rattle.rules.specs.Demands.{leaves, CanHappen, NeverRubbish}
 use Rattle.rules.specs.declared.Setup.{Setup}
+use Rattle.rules.specs.declared.Quotes.{Quotes}
 use Rattle.rules.specs.declared.Stock.{Stock}
-use Rattle.rules.specs.declared.Figures.{Figures}
 use Rattle.rules.specs.declared.Moment.{Moment}
+use Rattle.rules.specs.declared.Notice.{Notice}
 use Rattle.rules.specs.declared.Message.{Message}
 use Rattle.rules.specs.declared.Message.the-variants.{Trade as T, Quote as Q, Opening as O, Pause as P, Reopening as R, Closing as X}
-use Rattle.rules.proofs.Kept.{kept, after-kept, come-kept, effect-by}
-use Rattle.rules.proofs.Lawful.{when-due, next-not-past}
-use Rattle.rules.proofs.Coming.{past-is}
-use Rattle.rules.proofs.Numbers.{Taken, taken-words}
-use Rattle.rules.proofs.Passed.{told, settled}
+use Rattle.rules.proofs.After.{After, closes, pauses, enters, trades, stays, state-after}
+use Rattle.rules.proofs.Changed.{reference, kept}
+use Rattle.rules.proofs.Coming.{moments-are}
+use Rattle.rules.proofs.Events.{first-lawful, rest-lawful, event-forward}
+use Rattle.rules.proofs.Last.{quotes}
+use Rattle.rules.proofs.Numbers.{taken-words}
 use Rattle.rules.proofs.Ranges.{in-price, in-side}
-use Rattle.rules.proofs.Timely.{Timely, Comes, comes, Takes, takes, timely-left, fresh-timely, none-past}
+use Rattle.rules.proofs.Timely.{Timely, timely-left, fresh-timely}
+use Rattle.rules.proofs.Window.{InOrder, wider-in-order, joined-in-order, trades-clean, recent-in-order, trades as trades-are}
 
 -- ------------------------------------------------------------------ a stock in range
-
--- the trades are of a price, in order, and from `last` to the clock
-abbrev pub InOrder : ℕ → ℕ → List Trade → Type 0
-InOrder last clock [] = Unit {0}
-InOrder last clock (t ∷ ts) = IsPrice (t .price) × (last ≤ t .at) × (t .at ≤ clock) × InOrder (t .at) clock ts
 
 pub record SaneWindow (clock : ℕ) (w : List Trade) : Type 0 where
   pub count : length w ≤ 512
@@ -57,6 +53,7 @@ pub record Ranges (s : Stock) : Type 0 where
 pub record SaneStock (s : Stock) : Type 0 where
   pub ranges : Ranges s
   pub priced : 1 ≤ stateOf s → stateOf s ≤ Late → 1 ≤ s .reference .price
+  pub sixteen : (length (s .quotes .bids) ≡ 16) × (length (s .quotes .offers) ≡ 16)
   pub sides : Every IsSide (s .quotes .bids) × Every IsSide (s .quotes .offers)
 
 pub record Sane (h : Whole) : Type 0 where
@@ -67,20 +64,6 @@ pub record Sane (h : Whole) : Type 0 where
 
 -- ------------------------------------------------------------------ the window
 
-wider : (u v c d : ℕ) (w : List Trade) → v ≤ u → c ≤ d → InOrder u c w → InOrder v d w
-wider u v c d [] k l o = tt
-wider u v c d (t ∷ w) k l o = (o .0, omega (arith, o .1), omega (arith, o .2), wider (t .at) (t .at) c d w (le-refl _) l (o .3))
-
-joined : (u c : ℕ) (t : Trade) (w : List Trade) → u ≤ t .at → c ≤ t .at → IsPrice (t .price) → InOrder u c w → InOrder u (t .at) (w ++ (t ∷ []))
-joined u c t [] k l p o = (p, k, le-refl _, tt)
-joined u c t (a ∷ w) k l p o = (o .0, o .1, omega (arith, o .2), joined (a .at) c t w (omega (arith, o .2)) l p (o .3))
-
-stayed : (time u c : ℕ) (w : List Trade) → InOrder u c w → InOrder u c (staying time w)
-unfolding staying
-stayed time u c [] o = tt
-stayed time u c (t ∷ w) o = if-arms (InOrder u c) _ (λ _. o)
-    (λ _. wider (t .at) u c c (staying time w) (o .1) (le-refl _) (stayed time (t .at) c w (o .3)))
-
 pub fewer : (time : ℕ) (w : List Trade) → length (staying time w) ≤ length w
 unfolding staying
 fewer time [] = le-refl _
@@ -88,219 +71,247 @@ fewer time (t ∷ w) = if-arms (λ v. length v ≤ suc (length w)) _ {x = t ∷ 
     (λ _. le-refl _) (λ _. omega (arith, fewer time w))
 
 later : (c d : ℕ) (w : List Trade) → c ≤ d → SaneWindow c w → SaneWindow d w
-later c d w l i = record { count = i .count; in-order = wider 0 0 c d w (le-refl _) l (i .in-order) }
+later c d w l i = record { count = i .count; in-order = wider-in-order 0 0 c d w (le-refl _) l (i .in-order) }
 
 empty : (c : ℕ) → SaneWindow c []
 empty c = record { count = omega arith; in-order = tt }
 
-window-moment : (c : ℕ) (m : Moment) (w : List Trade) → SaneWindow c w → SaneWindow c (windowAfter m w)
-unfolding windowAfter
-window-moment c m w i = if-arms (SaneWindow c) _
-    (λ _. record { count = omega (arith, fewer (m .time) w); in-order = stayed (m .time) 0 c w (i .in-order) })
-    (λ _. if-arms (SaneWindow c) _ (λ _. empty c) (λ _. i))
+sums : (u c : ℕ) (w : List Trade) → InOrder u c w → (length w ≤ sumOf w) × (sumOf w ≤ 999_999_999 * length w)
+sums u c [] o = omega arith
+sums u c (t ∷ w) o = let rest = sums (t .at) c w (o .3) in let p = o .0 in omega arith
 
--- the prices' sum, added to `sum`
-sums : (u c sum : ℕ) (w : List Trade) → InOrder u c w
-    → (sum + length w ≤ foldl (λ sum t. sum + t .price) sum w) × (foldl (λ sum t. sum + t .price) sum w ≤ sum + 999_999_999 * length w)
-sums u c sum [] o = (omega arith, omega arith)
-sums u c sum (t ∷ w) o = let rest = sums (t .at) c (sum + t .price) w (o .3) in (omega arith, omega arith)
+-- the mean of prices is a price
+mean-priced : (c r : ℕ) (w : List Trade) → SaneWindow c w → IsMean w r → IsPrice r
+mean-priced c zero w i k = let s = sums 0 c w (i .in-order) in absurd (omega arith)
+mean-priced c (suc r) w i k =
+    let s = sums 0 c w (i .in-order) in
+    (omega arith, in-side (suc r) (λ n. let l : 999_999_999 ≤ r = omega arith in omega (arith, mul-le-mul-right (length w) l)))
 
--- the mean of trades is a price
-abbrev Priced : Figures → Type 0
-Priced f = (f .count ≡ 0 → ⊥) → IsPrice (meanIn f)
+-- ------------------------------------------------------------------ an event keeps the window in range
 
-mean-priced : (c : ℕ) (w : List Trade) → SaneWindow c w → Priced (figuresOf w)
-unfolding figuresOf total
-mean-priced c w i n =
-    let s = sums 0 c 0 w (i .in-order) in
-    (mean-least _ (length w) 1 (omega arith) (omega arith), mean-most _ (length w) 999_999_999 (omega arith))
+-- the price of an opening, and of a reopening
+opening-price : (price : ℕ) {A B : Type 0} → ¬ (A or ¬ IsPrice price or B) → IsPrice price
+opening-price price k = in-price price (λ n. k (inr (inl n)))
 
--- ------------------------------------------------------------------ the state rules keep a stock in range
+one-trade : (time price : ℕ) → IsPrice price → SaneWindow time (record { at = time; price = price } ∷ [])
+one-trade time price p = record { count = omega arith; in-order = (p, omega arith, le-refl _, tt) }
 
-time-sane : (t : ℕ) (s : Stock) → SaneStock s → clockOf s ≤ t → SaneStock (at-time t s)
-time-sane t s i l = record { ranges = omega arith; priced = i .priced; sides = i .sides }
+joins-sane : (h : Whole) (e : Event Message Notice) → CanHappen h e → Sane h → SaneWindow (dated machine e) (joins (h .window) e)
+joins-sane h (message (T time price)) v i =
+    let k = taken-words (T time price) h (v .0) in
+    let a = past 7 0 _ _ (λ z. omega arith) (k .own-passed) in
+    let b = past 11 0 _ _ (λ z. omega arith) (a .1) in
+    let c = past 12 0 _ _ (λ z. omega arith) (b .1) in
+    let room = past 13 0 _ _ (λ z. omega arith) (c .1) .0 in
+    let t : Trade = record { at = time; price = price } in record {
+      count = omega (arith, length-append (h .window) (t ∷ []));
+      in-order = joined-in-order 0 _ t (h .window) (omega arith) (event-forward h (message (T time price)) [] v) (in-price price (λ n. k .in-range (inl n))) (i .window .in-order);
+    }
+joins-sane h (message (Q time participant bid offer)) v i = later _ _ _ (event-forward h (message (Q time participant bid offer)) [] v) (i .window)
+joins-sane h (message (O time participant price)) v i = one-trade time price (opening-price price (taken-words (O time participant price) h (v .0) .in-range))
+joins-sane h (message (P time participant)) v i = later _ _ _ (event-forward h (message (P time participant)) [] v) (i .window)
+joins-sane h (message (R time participant price)) v i = one-trade time price (opening-price price (taken-words (R time participant price) h (v .0) .in-range))
+joins-sane h (message (X time participant price)) v i = empty time
+joins-sane h (moment n) v i = if-arms (SaneWindow _) _ (λ _. empty _) (λ _. later _ _ _ (event-forward h (moment n) [] v) (i .window))
 
-look-sane : (s : Stock) → SaneStock s → SaneStock (look s)
-unfolding look
-look-sane s i = if-arms SaneStock _ (λ t.
-    let e : stateOf s ≡ Trading = eqb-true _ _ (all-head _ _ t) in
-    record { ranges = omega arith; priced = λ _ _. i .priced (omega arith) (omega arith); sides = i .sides }) (λ _. i)
+window-sane : (h : Whole) (e : Event Message Notice) → CanHappen h e → Sane h → SaneWindow (dated machine e) (becomes machine h e .window)
+window-sane h e v i = go (trades-are h e v)
+  where
+    t : ℕ
+    t = dated machine e
 
-refer-sane : (price : ℕ) (s : Stock) → IsPrice price → SaneStock s → SaneStock (refer-to price s)
-refer-sane price s p i = record { ranges = omega arith; priced = λ _ _. p .0; sides = i .sides }
+    recent-sane : SaneWindow t (recent t (h .window))
+    recent-sane =
+        let k = recent-in-order t 0 _ (h .window) (i .window .in-order) in
+        later _ _ _ (event-forward h e [] v) (record { count = omega (arith, i .window .count, k .1); in-order = k .0 })
 
-trading-sane : (price : ℕ) (s : Stock) → IsPrice price → SaneStock s → SaneStock (begin-trading price s)
-unfolding begin-trading
-trading-sane price s p i = look-sane _ (record { ranges = omega arith; priced = λ _ _. p .0; sides = i .sides })
+    go : TradesAfter h e (becomes machine h e .window) → SaneWindow t (becomes machine h e .window)
+    go (inl (_, q)) = subst (SaneWindow t) (sym q) recent-sane
+    go (inr (_, q)) = subst (SaneWindow t) (sym q) (joins-sane h e v i)
 
-own-price : (s : Stock) → SaneStock s → 1 ≤ stateOf s → stateOf s ≤ Late → IsPrice (s .reference .price)
-own-price s i a b = (i .priced a b, i .ranges .price-by)
+-- ------------------------------------------------------------------ and the reference, which is a price in states 1 to 4
 
-leave-sane : (f : Figures) (s : Stock) → Priced f → SaneStock s → stateOf s ≡ Limit → SaneStock (leave f s)
-unfolding leave
-leave-sane f s p i e = if-arms SaneStock _ (λ _. i)
-    (λ _. trading-sane _ s (if-arms IsPrice (noTrades f) (λ _. own-price s i (omega arith) (omega arith)) (λ n. p (eqb-false _ 0 n))) i)
+abbrev Live : Stock → Type 0
+Live s = (1 ≤ stateOf s) × (stateOf s ≤ Late)
 
-test-sane : (f : Figures) (s : Stock) → Priced f → SaneStock s → SaneStock (test f s)
-unfolding test
-test-sane f s p i = if-arms SaneStock _
-    (λ t. look-sane _ (refer-sane _ s (p (eqb-false _ 0 (not-true _ (all-head _ _ (all-tail _ _ (all-tail _ _ t)))))) i)) (λ _. i)
+own-price : (s : Stock) → SaneStock s → Live s → IsPrice (s .reference .price)
+own-price s i l = (i .priced (l .0) (l .1), i .ranges .price-by)
 
-pause-sane : (s : Stock) → SaneStock s → 1 ≤ stateOf s → stateOf s ≤ Late → SaneStock (begin-pause s)
-unfolding begin-pause
-pause-sane s i a b =
-    let entered : (state : ℕ) → state ≤ Closed → SaneStock (enter-pause state s) =
-    λ state l. record { ranges = omega arith; priced = λ _ _. i .priced a b; sides = i .sides } in
-    if-arms (λ state. SaneStock (enter-pause state s)) _ (λ _. entered Late (omega arith)) (λ _. entered Paused (omega arith))
+-- each row of the moment's mark, where it is still to come, has A
+abbrev Each : Type 0 → Moment → List Coming → Type 0
+Each A m [] = Unit {0}
+Each A m (c ∷ cs) = (m .mark ≡ c .mark → c .comes → A) × Each A m cs
+
+by-mark : (A : Type 0) (m : Moment) (cs : List Coming) → IsFirst m cs → Each A m cs → A
+by-mark A m (c ∷ cs) (inl f) k = k .0 (f .1 .0) (f .0)
+by-mark A m (c ∷ cs) (inr f) k = by-mark A m cs (f .1) (k .1)
+
+-- a mean of the window that the event leaves, a message's own price, or the old one: a Limit is left by Q, and p comes in Paused
+pub started-price : (h : Whole) (e : Event Message Notice) (r : ℕ) → CanHappen h e → Sane h → Starts h e r → IsPrice r
+started-price h (message (T time price)) r v i (inl k) = mean-priced _ r _ (window-sane h (message (T time price)) v i) (k .1 .1)
+started-price h (message (T time price)) r v i (inr k) = mean-priced _ r _ (window-sane h (message (T time price)) v i) (k .1 .1 .0)
+started-price h (message (Q time participant bid offer)) r v i (l, inl k) = mean-priced _ r _ (window-sane h (message (Q time participant bid offer)) v i) k
+started-price h (message (Q time participant bid offer)) r v i (l, inr k) = let s = l .0 in rw (k .1) (own-price (h .stock) (i .stock) (omega arith))
+started-price h (message (O time participant price)) r v i q = rw q (opening-price price (taken-words (O time participant price) h (v .0) .in-range))
+started-price h (message (R time participant price)) r v i q = rw q (opening-price price (taken-words (R time participant price) h (v .0) .in-range))
+started-price h (moment n) r v i (inl (m, q)) = rw q (own-price (h .stock) (i .stock) (by-mark _ (n .moment) (moments h) (moments-are h n v) (omega arith)))
+started-price h (moment n) r v i (inr (inl k)) = mean-priced _ r _ (window-sane h (moment n) v i) (k .1 .1 .1 .0)
+started-price h (moment n) r v i (inr (inr (inl k))) = mean-priced _ r _ (window-sane h (moment n) v i) (k .1)
+started-price h (moment n) r v i (inr (inr (inr k))) = mean-priced _ r _ (window-sane h (moment n) v i) (k .1 .1 .1 .0)
+
+-- P comes in Trading, and x in Limit
+pauses-live : (h : Whole) (e : Event Message Notice) → CanHappen h e → StartsPause e → Live (h .stock)
+pauses-live h (message (T time price)) v k = absurd (not-among (letter-P ∷ mark-x ∷ []) _ letter-T refl refl k)
+pauses-live h (message (Q time participant bid offer)) v k = absurd (not-among (letter-P ∷ mark-x ∷ []) _ letter-Q refl refl k)
+pauses-live h (message (O time participant price)) v k = absurd (not-among (letter-P ∷ mark-x ∷ []) _ letter-O refl refl k)
+pauses-live h (message (P time participant)) v k =
+    let a = past 8 0 _ _ (λ z. omega arith) (taken-words (P time participant) h (v .0) .own-passed) in
+    let b = past 7 0 _ _ (λ z. omega arith) (a .1) in
+    let c = eq-stable _ _ .undenied (past 9 0 _ _ (λ z. omega arith) (b .1) .0) in
+    omega arith
+pauses-live h (message (R time participant price)) v k = absurd (not-among (letter-P ∷ mark-x ∷ []) _ letter-R refl refl k)
+pauses-live h (message (X time participant price)) v k = absurd (not-among (letter-P ∷ mark-x ∷ []) _ letter-X refl refl k)
+pauses-live h (moment n) v (inl q) = by-mark _ (n .moment) (moments h) (moments-are h n v) (omega arith)
+pauses-live h (moment n) v (inr (inl q)) = by-mark _ (n .moment) (moments h) (moments-are h n v) (omega arith)
+
+-- without a new reference a state from 1 to 4 comes from one of them
+state-sane : (h : Whole) (e : Event Message Notice) → CanHappen h e → stateOf (h .stock) ≤ Closed
+    → let s′ = becomes machine h e .stock in (stateOf s′ ≤ Closed) × (¬ StartsOne h e → Live s′ → Live (h .stock))
+state-sane h e v l = go (state-after h e v)
+  where
+    s′ : Stock
+    s′ = becomes machine h e .stock
+
+    looked : Looks h e → ¬ StartsOne h e → Live (h .stock)
+    looked (inl k) n = absurd (n k)
+    looked (inr k) n = omega (arith, k .0)
+
+    go : After h e → (stateOf s′ ≤ Closed) × (¬ StartsOne h e → Live s′ → Live (h .stock))
+    go (closes c q) = omega arith
+    go (pauses p (inl q)) = (omega arith, λ _ _. pauses-live h e v p)
+    go (pauses p (inr q)) = (omega arith, λ _ _. pauses-live h e v p)
+    go (enters p k q) = (omega arith, λ n _. looked (k .0) n)
+    go (trades p k x q) = (omega arith, λ n _. looked x n)
+    go (stays c p k x q) = omega arith
+
+-- ------------------------------------------------------------------ and the rest of the stock
 
 all-zero : (n : ℕ) → Every IsSide (replicate n 0)
 all-zero zero = tt
 all-zero (suc n) = (omega arith, all-zero n)
 
-shut-sane : (s : Stock) → SaneStock s → SaneStock (shut s)
-unfolding shut
-shut-sane s i = record { ranges = omega arith; priced = omega arith; sides = (all-zero 16, all-zero 16) }
+-- each of the sixteen is in range where all are
+side-at : (l : List ℕ) (i : ℕ) → Every IsSide l → IsSide (getD l i 0)
+side-at [] i a = omega arith
+side-at (x ∷ l) zero a = a .0
+side-at (x ∷ l) (suc i) a = side-at l i (a .1)
 
--- ------------------------------------------------------------------ a moment
+every-side : (l : List ℕ) → ((i : ℕ) → i < length l → IsSide (getD l i 0)) → Every IsSide l
+every-side [] a = tt
+every-side (x ∷ l) a = (a 0 (omega arith), every-side l (λ i k. a (suc i) (omega arith)))
 
-five-sane : (f : Figures) (s : Stock) → Priced f → SaneStock s → SaneStock (first-five f s)
-unfolding first-five
-five-sane f s p i =
-    let j : SaneStock (not-early s) = record { ranges = omega arith; priced = i .priced; sides = i .sides } in
-    if-arms SaneStock _ (λ _. j) (λ n. trading-sane _ _ (p (eqb-false _ 0 n)) j)
+abbrev Both : ℕ × ℕ → Type 0
+Both q = IsSide (q .0) × IsSide (q .1)
 
-effect-sane : (mark : ℕ) (f : Figures) (s : Stock) → Comes mark (stateOf s) → Priced f → SaneStock s → SaneStock (effect mark f s)
-effect-sane mark f s c p i =
-    effect-by SaneStock mark f s
-    (λ _. shut-sane s i)
-    (λ _. look-sane s i)
-    (λ e. let q = c .in-limit e in pause-sane s i (omega arith) (omega arith))
-    (λ e. let q = c .in-pause e in trading-sane _ s (own-price s i (omega arith) (omega arith)) i)
-    (λ _. shut-sane s i)
-    (λ _. test-sane f s p i)
-    (λ _. five-sane f s p i)
-    (test-sane f _ p (record { ranges = omega arith; priced = i .priced; sides = i .sides }))
+-- a quote that an event sets is in range
+quote-side : (h : Whole) (e : Event Message Notice) → CanHappen h e → (i : ℕ) (last : ℕ × ℕ) → Both last → Both (quoteBy i last e)
+quote-side h (message (T time price)) v i last a = a
+quote-side h (message (Q time participant bid offer)) v i last a =
+    let k = taken-words (Q time participant bid offer) h (v .0) .in-range in
+    if-arms Both _ (λ _. (in-side bid (λ n. k (inr (inl n))), in-side offer (λ n. k (inr (inr (inl n)))))) (λ _. a)
+quote-side h (message (O time participant price)) v i last a = a
+quote-side h (message (P time participant)) v i last a = a
+quote-side h (message (R time participant price)) v i last a = a
+quote-side h (message (X time participant price)) v i last a = (omega arith, omega arith)
+quote-side h (moment n) v i last a = if-arms Both _ (λ _. (omega arith, omega arith)) (λ _. a)
 
--- an event leaves the setup and the session's end
-carried : (h h′ : Whole) (t : ℕ) → Sane h → kept (h′ .stock) ≡ (t, h .stock .setup, h .stock .end)
-    → SaneStock (h′ .stock) → SaneWindow t (h′ .window) → Sane h′
-carried h h′ t i k s w = record {
-  setup-ok = rw (ap (λ k. k .1) k) (i .setup-ok);
-  end-ok = rw (ap (λ k. k .2) k) (i .end-ok);
-  stock = s;
-  window = rw (ap (λ k. k .0) k) w;
+module _ (h : Whole) (e : Event Message Notice) (v : CanHappen h e) (i : SaneStock (h .stock)) where
+  abbrev quotes-then : Quotes
+  quotes-then = becomes machine h e .stock .quotes
+
+  quoted-then : (j : ℕ) → j ≤ 15
+      → Quoted j quotes-then (quoteBy j (getD (h .stock .quotes .bids) j 0, getD (h .stock .quotes .offers) j 0) e)
+  quoted-then j l = quotes h e v j (getD (h .stock .quotes .bids) j 0, getD (h .stock .quotes .offers) j 0) l (i .sixteen .0, (refl, (i .sixteen .1, refl)))
+
+  sixteen-then : (length (quotes-then .bids) ≡ 16) × (length (quotes-then .offers) ≡ 16)
+  sixteen-then = let q = quoted-then 0 (omega arith) in (q .0, q .1 .1 .0)
+
+  sides-then : Every IsSide (quotes-then .bids) × Every IsSide (quotes-then .offers)
+  sides-then = (
+    every-side (quotes-then .bids) (λ j k. let l : j ≤ 15 = omega (arith, sixteen-then .0) in rw (quoted-then j l .1 .0) (in-range j .0)),
+    every-side (quotes-then .offers) (λ j k. let l : j ≤ 15 = omega (arith, sixteen-then .1) in rw (quoted-then j l .1 .1 .1) (in-range j .1)),
+  )
+    where
+      in-range : (j : ℕ) → Both (quoteBy j (getD (h .stock .quotes .bids) j 0, getD (h .stock .quotes .offers) j 0) e)
+      in-range j = quote-side h e v j _ (side-at (h .stock .quotes .bids) j (i .sides .0), side-at (h .stock .quotes .offers) j (i .sides .1))
+
+-- what is new, or as before, is not after the clock
+by-clock : (A : Type 0) (now new before clock : ℕ) → IsNew A now new before → new ≤ clock → before ≤ clock → now ≤ clock
+by-clock A now new before clock (inl k) a b = omega (arith, k .1)
+by-clock A now new before clock (inr k) a b = omega (arith, k .1)
+
+pub event-sane : (h : Whole) (e : Event Message Notice) → CanHappen h e → Sane h → Sane (becomes machine h e)
+event-sane h e v i = let f = from-reference (reference h e v) in record {
+  setup-ok = subst IsSetup (sym (k .1 .0)) (i .setup-ok);
+  end-ok = subst IsEnd (sym (k .1 .1 .0)) (i .end-ok);
+  stock = record {
+    ranges = record {
+      state-by = state .0;
+      start-by = f .0;
+      entry-by = by-clock _ _ _ _ _ (k .1 .1 .1 .0) (omega (arith, k .0)) (omega (arith, r .entry-by, on));
+      pause-by = by-clock _ _ _ _ _ (k .1 .1 .1 .1 .0) (omega (arith, k .0)) (omega (arith, r .pause-by, on));
+      price-by = f .1;
+    };
+    priced = λ a b. f .2 (a, b);
+    sixteen = sixteen-then h e v (i .stock);
+    sides = sides-then h e v (i .stock);
+  };
+  window = subst (λ c. SaneWindow c (h′ .window)) (sym (k .0)) (window-sane h e v i);
 }
+  where
+    h′ : Whole
+    h′ = becomes machine h e
+
+    r : Ranges (h .stock)
+    r = i .stock .ranges
+
+    k : KeptAfter h e (h′ .stock)
+    k = kept h e v
+
+    state : (stateOf (h′ .stock) ≤ Closed) × (¬ StartsOne h e → Live (h′ .stock) → Live (h .stock))
+    state = state-sane h e v (r .state-by)
+
+    on : clockOf (h .stock) ≤ clockOf (h′ .stock)
+    on = omega (arith, k .0, event-forward h e [] v)
+
+    from-reference : ReferenceAfter h e (h′ .stock)
+        → (h′ .stock .reference .start ≤ clockOf (h′ .stock)) × IsSide (h′ .stock .reference .price) × (Live (h′ .stock) → 1 ≤ h′ .stock .reference .price)
+    from-reference (inl (s, (d, _))) = let p = started-price h e _ v i s in (omega (arith, d, k .0), p .1, λ _. p .0)
+    from-reference (inr (n, (p, (d, _)))) = (
+      omega (arith, d, r .start-by, on),
+      omega (arith, p, r .price-by),
+      λ l. let w = state .1 n l in omega (arith, p, i .stock .priced (w .0) (w .1)),
+    )
 
 pub moment-sane : (time : ℕ) (h : Whole) → Sane h → settles time h ≡ 0 → Sane (fire h)
-unfolding fire come
-moment-sane time h i e =
-    let p = settled time h e in
-    let m = nextOf h in
-    let is = when-due time m (p .due) .0 in
-    let on = next-not-past h (p .sound) is in
-    let w = window-moment (m .time) m (h .window) (later _ _ _ on (i .window)) in
-    carried h (fire h) (m .time) i (come-kept m h) (effect-sane (m .mark) _ _ (comes h is) (mean-priced _ _ w) (time-sane _ _ (i .stock) on)) w
-
--- ------------------------------------------------------------------ a message
-
--- what the checks have seen of a message
-abbrev Fits : Message → List Trade → Type 0
-Fits (T time price) w = IsPrice price × (length w < 512)
-Fits (Q time participant bid offer) w = IsSide bid × IsSide offer
-Fits (O time participant price) w = IsPrice price
-Fits (P time participant) w = Unit {0}
-Fits (R time participant price) w = IsPrice price
-Fits (X time participant price) w = Unit {0}
-
-fits : (m : Message) (h : Whole) → Taken m h → Fits m (h .window)
-fits (T time price) h k =
-    let a = past 7 0 _ _ (λ z. omega arith) (k .own-passed) in
-    let b = past 11 0 _ _ (λ z. omega arith) (a .1) in
-    let c = past 12 0 _ _ (λ z. omega arith) (b .1) in
-    let d = past 13 0 _ _ (λ z. omega arith) (c .1) .0 in
-    (in-price price (λ n. k .in-range (inl n)), omega arith)
-fits (Q time participant bid offer) h k =
-    (in-side bid (λ n. k .in-range (inr (inl n))), in-side offer (λ n. k .in-range (inr (inr (inl n)))))
-fits (O time participant price) h k = in-price price (λ n. k .in-range (inr (inl n)))
-fits (P time participant) h k = tt
-fits (R time participant price) h k = in-price price (λ n. k .in-range (inr (inl n)))
-fits (X time participant price) h k = tt
-
--- the clock goes from c to the message's time
-window-message : (m : Message) (c : ℕ) (h : Whole) → c ≤ timeOf m → Fits m (h .window) → SaneWindow c (h .window)
-    → SaneWindow (timeOf m) (does m h .window)
-unfolding does
-window-message (T time price) c h l k i = record {
-  count = omega (arith, length-append (h .window) (record { at = time; price = price } ∷ []));
-  in-order = joined 0 c (record { at = time; price = price }) (h .window) (omega arith) l (k .0) (i .in-order);
-}
-window-message (Q time participant bid offer) c h l k i = later c time (h .window) l i
-window-message (O time participant price) c h l k i = record { count = omega arith; in-order = (k, omega arith, le-refl _, tt) }
-window-message (P time participant) c h l k i = later c time (h .window) l i
-window-message (R time participant price) c h l k i = record { count = omega arith; in-order = (k, omega arith, le-refl _, tt) }
-window-message (X time participant price) c h l k i = empty time
-
-sides-set : (l : List ℕ) (i price : ℕ) → IsSide price → Every IsSide l → Every IsSide (set l i price)
-sides-set [] i price p a = tt
-sides-set (x ∷ l) zero price p a = (p, a .1)
-sides-set (x ∷ l) (suc i) price p a = (a .0, sides-set l i price p (a .1))
-
-does-sane : (m : Message) (h : Whole) → Takes m (stateOf (h .stock)) → Fits m (h .window) → Priced (figuresOf (does m h .window))
-    → SaneStock (h .stock) → SaneStock (does m h .stock)
-unfolding does tradeRules quoteRules figuresOf
-does-sane (T time price) h k c p i =
-    let n = length-append (h .window) (record { at = time; price = price } ∷ []) in
-    if-arms SaneStock _ (λ _. if-arms SaneStock _ (λ _. trading-sane _ _ (p (λ z. omega arith)) i) (λ _. i)) (λ _. test-sane _ _ p i)
-does-sane (Q time participant bid offer) h k c p i =
-    let s = h .stock in
-    let j : SaneStock (with-quote participant bid offer s) = record {
-      ranges = omega arith;
-      priced = i .priced;
-      sides = (
-        sides-set (s .quotes .bids) participant bid (c .0) (i .sides .0),
-        sides-set (s .quotes .offers) participant offer (c .1) (i .sides .1),
-      );
-    } in
-    if-arms SaneStock _ (λ e. leave-sane _ _ p j (eqb-true _ _ e)) (λ _. look-sane _ j)
-does-sane (O time participant price) h k c p i = trading-sane price _ c i
-does-sane (P time participant) h k c p i = pause-sane _ i (omega arith) (omega arith)
-does-sane (R time participant price) h k c p i = trading-sane price _ c i
-does-sane (X time participant price) h k c p i = shut-sane _ i
-
-pub message-sane : (m : Message) (h : Whole) → Sane h → tells m h ≡ 0 → Sane (after m h)
-unfolding after
-message-sane m h i e =
-    let p = told m h e in
-    let g : Whole = record { stock = at-time (timeOf m) (h .stock); window = h .window } in
-    let seen = fits m h (taken-words m h e) in
-    let w = window-message m _ g (p .not-back) seen (i .window) in
-    carried h (after m h) (timeOf m) i (after-kept m h)
-    (does-sane m g (takes m _ (p .state-takes)) seen (mean-priced _ _ w) (time-sane _ _ (i .stock) (p .not-back))) w
+moment-sane time h i e = event-sane h (moment (notice h)) ((time, e), refl, tt) i
 
 -- ------------------------------------------------------------------ every story
 
 pub sane-left : (es : Story) (h : Whole) → Sane h → Lawful machine h es → Sane (left machine h es)
 sane-left [] h i v = i
-sane-left (message m ∷ es) h i v = sane-left es (after m h) (message-sane m h i (v .0)) (v .1)
-sane-left (moment n ∷ es) h i v = sane-left es (fire h) (moment-sane (v .0 .0) h i (v .0 .1)) (v .2)
+sane-left (e ∷ es) h i v = sane-left es (becomes machine h e) (event-sane h e (first-lawful h e es v) i) (rest-lawful h e es v)
 
 pub fresh-sane : (end : ℕ) (u : Setup) → IsEnd end → IsSetup u → Sane (fresh end u)
 unfolding fresh
 fresh-sane end u e b = record {
   setup-ok = b;
   end-ok = e;
-  stock = record { ranges = omega arith; priced = omega arith; sides = (all-zero 16, all-zero 16) };
+  stock = record { ranges = omega arith; priced = omega arith; sixteen = (refl, refl); sides = (all-zero 16, all-zero 16) };
   window = empty 0;
 }
 
 -- ------------------------------------------------------------------ what is in range is not rubbish
-
-trades-clean : (c ahead : ℕ) (w : List Trade) → InOrder ahead c w → ¬ BadTrade c ahead w
-trades-clean c ahead [] o b = b
-trades-clean c ahead (t ∷ w) o (inl (inl n)) = n (o .0)
-trades-clean c ahead (t ∷ w) o (inl (inr (inl l))) = omega (arith, o .2)
-trades-clean c ahead (t ∷ w) o (inl (inr (inr l))) = omega (arith, o .1)
-trades-clean c ahead (t ∷ w) o (inr b) = trades-clean c (t .at) w (o .3) b
 
 sides-clean : (l : List ℕ) → Every IsSide l → ¬ Some (λ side. ¬ IsSide side) l
 sides-clean [] a b = b
@@ -342,7 +353,7 @@ clean : (h : Whole) → Sane h → Timely h → ¬ Rubbish h
 clean h i j (inl b) = stock-clean h i j b
 clean h i j (inr (inl l)) = omega (arith, i .window .count)
 clean h i j (inr (inr (inl b))) = trades-clean _ 0 (h .window) (i .window .in-order) b
-clean h i j (inr (inr (inr p))) = past-is _ h .fails (none-past h j) p
+clean h i j (inr (inr (inr p))) = j .not-past p
 
 pub never-rubbish : NeverRubbish
 never-rubbish end u es a =

@@ -1,23 +1,23 @@
 -- Document 01 in words: what an event changes, and what it leaves ("States", "Moments", "Messages"). An event is a message that was
--- accepted or a moment that happened; h is the stock that it comes to, and s′ the stock that it leaves. No test of the rules is asked.
--- The demands `trades`, `quotes`, `reference`, `states` and `kept` say that each event does this, and `changes-only` that together they leave
--- nothing of a stock open. Words.antt says how to read it.
+-- accepted or a moment that happened; h is the stock that it comes to, and s′ the stock that it leaves. No test of the rules is asked;
+-- windows and quotes are worked out by functions of this file. The demands `trades`, `quotes`, `reference`, `states` and `kept` say that each
+-- event does this, and `changes-only` that together they leave nothing of a stock open. Words.antt says how to read it.
 -- Assumes nothing.
 use Prim.Native.Nat.{ℕ, _+_, _-_, _≤_}
 use mathlib.Core.Bool.{Bool}
 use mathlib.Core.List.{List, [], _∷_, _++_}
 use mathlib.Core.Path.{_≡_}
 use lib.Dec.{ltb, eqb}
-use lib.ListN.{length, getD}
+use lib.ListN.{length, getD, set}
 use Rattle.forms.specs.Choice.{if_then_else_, anyOf}
 use Rattle.forms.specs.Words.{_or_, _and_, IsOneOf, Number, Otherwise}
 use Rattle.forms.specs.Words.Number.{_for_}
-use Rattle.rules.specs.Stock.{Trade, Whole, Waiting, Trading, Limit, Paused, Late, Closed, stateOf}
+use Rattle.rules.specs.Stock.{Trade, Whole, Waiting, Trading, Limit, Paused, Late, Closed, stateOf, with-quotes}
 use Rattle.rules.specs.Moments.{mark-z, mark-w, mark-x, mark-p, mark-c, mark-v, mark-f, mark-h}
-use Rattle.rules.specs.Messages.{letter-Q, letter-P, letter-X, letter, with-quote}
-use Rattle.rules.specs.Machine.{Event, message, moment, dated, becomes}
+use Rattle.rules.specs.Messages.{letter-T, letter-Q, letter-O, letter-P, letter-R, letter-X}
+use Rattle.rules.specs.Machine.{Event, message, moment, becomes}
 use Rattle.rules.specs.Book.{machine}
-use Rattle.rules.specs.Words.{IsMean, OnePercent, AtBand, Crossing}
+use Rattle.rules.specs.Words.{IsMean, OnePercent, AtBand, Crossing, timeIn}
 use Rattle.rules.specs.declared.Quotes.{Quotes}
 use Rattle.rules.specs.declared.Stock.{Stock}
 use Rattle.rules.specs.declared.Notice.{Notice}
@@ -26,8 +26,18 @@ use Rattle.rules.specs.declared.Message.the-variants.{Trade as T, Quote 
 
 -- an event's letter or mark
 abbrev pub letterOf : Event Message Notice → ℕ
-letterOf (message m) = letter m
+letterOf (message (T time price)) = letter-T
+letterOf (message (Q time participant bid offer)) = letter-Q
+letterOf (message (O time participant price)) = letter-O
+letterOf (message (P time participant)) = letter-P
+letterOf (message (R time participant price)) = letter-R
+letterOf (message (X time participant price)) = letter-X
 letterOf (moment n) = n .moment .mark
+
+-- its date: the time that a message names, and a moment's own
+abbrev pub dateOf : Event Message Notice → ℕ
+dateOf (message m) = timeIn m
+dateOf (moment n) = n .moment .time
 
 -- something is new where the words hold, and as before where they do not
 abbrev pub IsNew : {A : Type 0} → Type 0 → A → A → A → Type 0
@@ -35,9 +45,9 @@ IsNew Words now new before = (Words and now ≡ new) or (¬ Words and now ≡ be
 
 -- ------------------------------------------------------------------ "States": the window
 
--- the moments that close a stock
-abbrev pub closes : ℕ → Bool
-closes mark = anyOf (eqb mark mark-z ∷ eqb mark mark-c ∷ [])
+-- z and c, which close a stock
+abbrev pub closingMark : ℕ → Bool
+closingMark mark = anyOf (eqb mark mark-z ∷ eqb mark mark-c ∷ [])
 
 -- T joins the trades w; O and R make them its price alone, dated by the message; closing empties them
 abbrev pub joins : List Trade → Event Message Notice → List Trade
@@ -47,16 +57,16 @@ joins w (message (O time participant price)) = record { at = time; price = price
 joins w (message (P time participant)) = w
 joins w (message (R time participant price)) = record { at = time; price = price } ∷ []
 joins w (message (X time participant price)) = []
-joins w (moment n) = if closes (n .moment .mark) then [] else w
+joins w (moment n) = if closingMark (n .moment .mark) then [] else w
 
 -- of trades those that have not left at `time`: a trade of time u leaves at u + 300,000
 unfoldable pub recent : ℕ → List Trade → List Trade
 recent time [] = []
 recent time (t ∷ ts) = if ltb time (t .at + 300_000) then t ∷ recent time ts else recent time ts
 
--- the window after an event: trades leave by v alone
+-- the window after an event: v lets the trades leave whose time has come, and any other event does what `joins` says
 abbrev pub TradesAfter : Whole → Event Message Notice → List Trade → Type 0
-TradesAfter h e w′ = IsNew (letterOf e ≡ mark-v) w′ (recent (dated machine e) (h .window)) (joins (h .window) e)
+TradesAfter h e w′ = IsNew (letterOf e ≡ mark-v) w′ (recent (dateOf e) (h .window)) (joins (h .window) e)
 
 -- ------------------------------------------------------------------ "Quotes and flags": each participant's bid and offer
 
@@ -68,7 +78,7 @@ quoteBy i last (message (O time participant price)) = last
 quoteBy i last (message (P time participant)) = last
 quoteBy i last (message (R time participant price)) = last
 quoteBy i last (message (X time participant price)) = (0, 0)
-quoteBy i last (moment n) = if closes (n .moment .mark) then (0, 0) else last
+quoteBy i last (moment n) = if closingMark (n .moment .mark) then (0, 0) else last
 
 -- of sixteen, participant i has that bid and offer
 abbrev pub Quoted : ℕ → Quotes → ℕ × ℕ → Type 0
@@ -80,9 +90,14 @@ QuotesAfter h e s′ = (i : ℕ) (last : ℕ × ℕ) → i ≤ 15 → Quoted i (
 
 -- ------------------------------------------------------------------ "States": the reference
 
--- Limit ends by a quote after which, by the bands of the Limit, neither side has flag 3
+-- the quotes with one participant's set
+abbrev pub quotesWith : Quotes → (participant bid offer : ℕ) → Quotes
+quotesWith q participant bid offer = record { bids = set (q .bids) participant bid; offers = set (q .offers) participant offer }
+
+-- Limit ends by a quote, exactly where neither side then has flag 3 by the bands of the Limit
 abbrev pub LeavesLimit : Whole → (participant bid offer : ℕ) → Type 0
-LeavesLimit h participant bid offer = stateOf (h .stock) ≡ Limit and ¬ AtBand (with-quote participant bid offer (h .stock))
+LeavesLimit h participant bid offer =
+    stateOf (h .stock) ≡ Limit and ¬ AtBand (with-quotes (quotesWith (h .stock .quotes) participant bid offer) (h .stock))
 
 -- the Test finds that the mean of the window w is to be the reference: in Trading, with the hold ended and the window not empty
 abbrev pub Test : ℕ → Whole → List Trade → ℕ → Type 0
@@ -118,7 +133,7 @@ abbrev pub ReferenceAfter : Whole → Event Message Notice → Stock → Type 0
 ReferenceAfter h e s′ =
     let r = h .stock .reference in
     let r′ = s′ .reference in
-    (Starts h e (r′ .price) and r′ .start ≡ dated machine e and r′ .hold ≡ 1)
+    (Starts h e (r′ .price) and r′ .start ≡ dateOf e and r′ .hold ≡ 1)
     or (¬ StartsOne h e and r′ .price ≡ r .price and r′ .start ≡ r .start and IsNew (letterOf e ≡ mark-h) (r′ .hold) 0 (r .hold))
 
 -- ------------------------------------------------------------------ "States": the state
@@ -131,7 +146,8 @@ Closes e = IsOneOf (letterOf e) (letter-X ∷ mark-z ∷ mark-c ∷ [])
 abbrev pub StartsPause : Event Message Notice → Type 0
 StartsPause e = IsOneOf (letterOf e) (letter-P ∷ mark-x ∷ [])
 
--- the quotes are looked at: on every new reference, and in Trading on a quote and on w
+-- the quotes are looked at: on every new reference, with which Trading is entered or its bands change (also where Limit ends), and in
+-- Trading on a quote and on w, which changes k
 abbrev pub Looks : Whole → Event Message Notice → Type 0
 Looks h e = StartsOne h e or (stateOf (h .stock) ≡ Trading and IsOneOf (letterOf e) (letter-Q ∷ mark-w ∷ []))
 
@@ -143,7 +159,7 @@ Enters h e s′ = Looks h e and AtBand s′ and ¬ Crossing s′
 abbrev pub stateAfter : Whole → Event Message Notice → Stock → List Number
 stateAfter h e s′ =
     Closed for Closes e ∷
-    Late for (StartsPause e and h .stock .end - 600_000 ≤ dated machine e) ∷
+    Late for (StartsPause e and h .stock .end - 600_000 ≤ dateOf e) ∷
     Paused for StartsPause e ∷
     Limit for Enters h e s′ ∷
     Trading for Looks h e ∷
@@ -158,7 +174,7 @@ abbrev pub KeptAfter : Whole → Event Message Notice → Stock → Type 0
 KeptAfter h e s′ =
     let c = h .stock .course in
     let c′ = s′ .course in
-    c′ .clock ≡ dated machine e and s′ .setup ≡ h .stock .setup and s′ .end ≡ h .stock .end
-    and IsNew (Enters h e s′) (c′ .entry) (dated machine e) (c .entry)
-    and IsNew (StartsPause e) (c′ .pause) (dated machine e) (c .pause)
+    c′ .clock ≡ dateOf e and s′ .setup ≡ h .stock .setup and s′ .end ≡ h .stock .end
+    and IsNew (Enters h e s′) (c′ .entry) (dateOf e) (c .entry)
+    and IsNew (StartsPause e) (c′ .pause) (dateOf e) (c .pause)
     and IsNew (letterOf e ≡ mark-f) (c′ .early) 0 (c .early)

@@ -9,12 +9,21 @@
 --   P → Q, P ↔ Q            if P then Q, P exactly if Q
 --   P × Q, P and Q          both
 --   P ⊎ Q, P or Q, ¬ P      one of them, not P
---   a ≡ b, a ∷ b ∷ []       a equals b, a list of a and b
+--   a ≡ b                   a equals b
+--   a ∷ b ∷ [], as ++ bs    a list of a and b, two lists in a row
+--   getD l i d              the ith of l, from 0, and d where l has none
+--   s .end, k .0, k .1      a record's field `end`, and the first and the second of a pair
+--   let x = a in P          P, in which x is short for a
+--   λ x. f                  the function from x to f
 --   Gives table n           n is the number of the table's first row whose words hold, and 0 where no row's do
 --   tells m h               the number that the stock h answers the message m with
 --   settles time h, reads h the same of settling to a time, and of reading
 --   after m h, fire h       the stock after an accepted message, and after its earliest moment
 --   becomes machine h e     the stock after an event e, which is a message or a moment
+--   afterTelling, afterSettling, tellAnswer, settleAnswer, readAnswer
+--                           the stock after such a call, accepted or refused, and its answer; the names with `book` are those of a book
+--   stock machine d b i     the ith stock of the book b; `stepIn` and `numberIn` are the book after a call on it, and the call's number
+--   story end us cs i       the story of the ith stock after a setup us and calls cs, and `now` is that stock
 --   Allowed end u es        es is a story of a stock with setup u and session's end `end`, in a row that the rules allow
 --   leaves end u es         the stock that it leaves
 -- Assumes nothing.
@@ -68,7 +77,8 @@ NumbersAre = (h : Whole) (n : ℕ)
     × ((time : ℕ) → (settles time h ≡ n) ↔ Gives (settleRefusals time h) n)
     × ((reads h ≡ n) ↔ Gives (readRefusals h) n)
 
--- So is a call on a book, the shape and the number of the stock first; a book of the right shape gives what the machine's stocks give.
+-- A call on a book is answered so too, the book's shape and the number of the stock looked at first; a book of the right shape gives what
+-- the machine's stocks give.
 abbrev pub BookNumbersAre : Type 0
 BookNumbersAre = (end : ℕ) (b : List Whole) (times prices i n : ℕ)
     → let h = stock machine (blank end) b i in
@@ -79,7 +89,7 @@ BookNumbersAre = (end : ℕ) (b : List Whole) (times prices i n : ℕ)
     → ((m : Message) → numberIn machine (blank end) b (record { at = i; it = tell m }) ≡ bookTells end b times prices i m .number)
     × ((time : ℕ) → numberIn machine (blank end) b (record { at = i; it = settle time }) ≡ bookSettles end b times prices i time .answer .number))
 
--- So is a setup.
+-- A setup is answered n exactly where n's words hold and no earlier number's do.
 abbrev pub SetupNumbersAre : Type 0
 SetupNumbersAre = (stocks times prices end : ℕ) (us : List Setup) (n : ℕ)
     → (setsUp stocks times prices end us ≡ n) ↔ Gives (setupRefusals stocks times prices end us) n
@@ -112,13 +122,12 @@ CallsLeave = (h : Whole)
     × ((time : ℕ) → (settles time h ≡ 0 → (afterSettling time h ≡ fire h) × (settleAnswer time h ≡ notice h))
     × (¬ (settles time h ≡ 0) → afterSettling time h ≡ h))
 
--- An answer shows the stock as it then is, zeros with 1, 2 and 3. Settling's answer has the earliest moment, zeros where none was done.
+-- An answer shows the stock as it then is, zeros with 1, 2 and 3. Settling's answer has zeros for the moment where none was done.
 abbrev pub AnswersShow : Type 0
 AnswersShow = (h : Whole)
     → ((m : Message) → Shows (tells m h) (afterTelling m h .stock) (tellAnswer m h))
     × ((time : ℕ) → let a = settleAnswer time h in
     Shows (settles time h) (afterSettling time h .stock) (a .answer)
-    × (settles time h ≡ 0 → IsFirst (a .moment) (moments h))
     × (¬ (settles time h ≡ 0) → a .moment .mark ≡ 0 and a .moment .time ≡ 0))
     × Shows (reads h) (h .stock) (readAnswer h)
     × ((stocks times prices end : ℕ) (us : List Setup) → let a = setupAnswer stocks times prices end us in
@@ -140,7 +149,7 @@ BookAnswers = (end : ℕ) (b : List Whole) (times prices i : ℕ)
 abbrev pub FreshIs : Type 0
 FreshIs = (end : ℕ) (u : Setup) → let h = fresh end u in let s = h .stock in
     s .setup ≡ u and s .end ≡ end
-    and stateOf s ≡ Waiting and clockOf s ≡ 0 and s .course .entry ≡ 0 and s .course .pause ≡ 0 and ¬ (s .course .early ≡ 0)
+    and stateOf s ≡ Waiting and clockOf s ≡ 0 and s .course .entry ≡ 0 and s .course .pause ≡ 0 and s .course .early ≡ 1
     and s .reference ≡ record { price = 0; start = 0; hold = 0 }
     and s .quotes .bids ≡ replicate 16 0 and s .quotes .offers ≡ replicate 16 0
     and h .window ≡ []
@@ -151,12 +160,32 @@ ByStory = (end : ℕ) (us : List Setup) → Accepted end us → (cs : Calls mach
     → Allowed end (getD us i noSetup) (story end us cs i)
     × (now end us cs i ≡ leaves end (getD us i noSetup) (story end us cs i))
 
--- A refused call changes nothing.
+-- A call leaves as many stocks as there were, and the stock that it names as the call on that stock leaves it.
+abbrev pub CallsStep : Type 0
+CallsStep = (end : ℕ) (b : List Whole) (i : ℕ)
+    → let h = stock machine (blank end) b i in
+    ((m : Message) → let b′ = stepIn machine (blank end) b (record { at = i; it = tell m }) in
+    (length b′ ≡ length b) × (i < length b → stock machine (blank end) b′ i ≡ afterTelling m h))
+    × ((time : ℕ) → let b′ = stepIn machine (blank end) b (record { at = i; it = settle time }) in
+    (length b′ ≡ length b) × (i < length b → stock machine (blank end) b′ i ≡ afterSettling time h))
+
+-- A story begins empty. An accepted message is the next event of the story of the stock that it names, and so is a settled moment; no other
+-- call is in a story.
+abbrev pub StoriesGrow : Type 0
+StoriesGrow = (end : ℕ) (us : List Setup) (i : ℕ) → (story end us [] i ≡ []) × ((cs : Calls machine) (j : ℕ) → j < length us
+    → let h = now end us cs j in
+    let after-call : Call Message → Story = λ it. story end us (cs ++ (record { at = j; it = it } ∷ [])) i in
+    ((m : Message) → (i ≡ j and tells m h ≡ 0 → after-call (tell m) ≡ story end us cs i ++ (message m ∷ []))
+    × (¬ (i ≡ j and tells m h ≡ 0) → after-call (tell m) ≡ story end us cs i))
+    × ((time : ℕ) → (i ≡ j and settles time h ≡ 0 → after-call (settle time) ≡ story end us cs i ++ (moment (notice h) ∷ []))
+    × (¬ (i ≡ j and settles time h ≡ 0) → after-call (settle time) ≡ story end us cs i)))
+
+-- A call that a stock refuses changes nothing. One on a book of a wrong shape is refused by `book-numbers`; the crate `book` keeps its bytes.
 abbrev pub Refused : Type 0
 Refused = (end : ℕ) (b : List Whole) (c : On (Call Message)) → ¬ (numberIn machine (blank end) b c ≡ 0)
     → stepIn machine (blank end) b c ≡ b
 
--- An accepted call changes nothing but the stock that it names.
+-- A call changes nothing but the stock that it names.
 abbrev pub OthersStay : Type 0
 OthersStay = (end : ℕ) (b : List Whole) (c : On (Call Message)) (i : ℕ) → ¬ (i ≡ c .at)
     → stock machine (blank end) (stepIn machine (blank end) b c) i ≡ stock machine (blank end) b i
@@ -186,10 +215,11 @@ FewMoments = (end : ℕ) (u : Setup) (es ns : Story) → Allowed end u (es ++ ns
 abbrev pub MomentsAre : Type 0
 MomentsAre = (h : Whole) (n : Notice) → CanHappen h (moment n) → IsFirst (n .moment) (moments h)
 
--- The window and the quotes after each event.
+-- The window after each event.
 abbrev pub TradesAre : Type 0
 TradesAre = (h : Whole) (e : Event Message Notice) → CanHappen h e → TradesAfter h e (becomes machine h e .window)
 
+-- The quotes after each event.
 abbrev pub QuotesAre : Type 0
 QuotesAre = (h : Whole) (e : Event Message Notice) → CanHappen h e → QuotesAfter h e (becomes machine h e .stock)
 
@@ -197,10 +227,11 @@ QuotesAre = (h : Whole) (e : Event Message Notice) → CanHappen h e → QuotesA
 abbrev pub StatesAre : Type 0
 StatesAre = (h : Whole) (e : Event Message Notice) → CanHappen h e → let s′ = becomes machine h e .stock in Gives (stateAfter h e s′) (stateOf s′)
 
--- The reference after each event, and what is kept beside the state.
+-- The reference after each event.
 abbrev pub ReferenceIs : Type 0
 ReferenceIs = (h : Whole) (e : Event Message Notice) → CanHappen h e → ReferenceAfter h e (becomes machine h e .stock)
 
+-- What is kept beside them after each event: the clock, the setup, the session's end, the entry, the pause's start and the marker of f.
 abbrev pub KeptIs : Type 0
 KeptIs = (h : Whole) (e : Event Message Notice) → CanHappen h e → KeptAfter h e (becomes machine h e .stock)
 
@@ -222,8 +253,8 @@ abbrev pub ClockIs : Type 0
 ClockIs = (end : ℕ) (u : Setup) (es : Story) → Allowed end u es
     → (clockOf (leaves end u es .stock) ≡ lastDate 0 es) × (leaves end u es .stock .setup ≡ u) × (leaves end u es .stock .end ≡ end)
 
--- The held trades are those since the last opening, of the last 300,000: at the clock, but for those that leave at its very millisecond and
--- may be there still, and at each time to which the stock is settled.
+-- The held trades are those since the last opening of the last 300,000. At the clock those that leave at its very millisecond may be there
+-- still; at each time to which the stock is settled they are gone.
 abbrev pub HeldTrades : Type 0
 HeldTrades = (end : ℕ) (u : Setup) (es : Story) → Allowed end u es
     → let h = leaves end u es in
@@ -235,13 +266,14 @@ abbrev pub LastQuotes : Type 0
 LastQuotes = (end : ℕ) (u : Setup) (es : Story) → Allowed end u es
     → (i : ℕ) → i ≤ 15 → Quoted i (leaves end u es .stock .quotes) (lastQuote i (0, 0) es)
 
--- The reference is the one that was started last, by its price, dated by that event; before the first there is none, and so in Waiting.
+-- Before an event starts the first reference there is none, and the stock is Waiting or Closed. From then on the reference is the one that
+-- was started last, by its price, dated by that event, and the stock is not Waiting.
 abbrev pub ReferenceSince : Type 0
 ReferenceSince = (end : ℕ) (u : Setup) (es : Story) → Allowed end u es
     → let s = leaves end u es .stock in
     let r = s .reference in
-    ((NoneStarted (fresh end u) es × (r ≡ record { price = 0; start = 0; hold = 0 })) ⊎ StartedBy (r .price) (r .start) (fresh end u) es)
-    × (stateOf s ≡ Waiting → NoneStarted (fresh end u) es)
+    (NoneStarted (fresh end u) es × (r ≡ record { price = 0; start = 0; hold = 0 }) × (stateOf s ≡ Waiting or stateOf s ≡ Closed))
+    ⊎ (StartedBy (r .price) (r .start) (fresh end u) es × (1 ≤ r .price) × ¬ (stateOf s ≡ Waiting))
 
 -- In Limit, and in a pause, the kept date is that of the event since which the stock is there.
 abbrev pub DatesAre : Type 0
@@ -286,7 +318,7 @@ abbrev pub NeverAgain : Type 0
 NeverAgain = (h : Whole) (es : Story) → Lawful machine h es → stateOf (h .stock) ≡ Late
     → (stateOf (left machine h es .stock) ≡ Late) ⊎ (stateOf (left machine h es .stock) ≡ Closed)
 
--- A story settled past 300,000 that was Waiting before it has exactly one f.
+-- A story that was Waiting before 300,000, settled to 300,000 or later, has exactly one f.
 abbrev pub OneF : Type 0
 OneF = (end : ℕ) (u : Setup) (es : Story) → Allowed end u es → (time : ℕ) → settles time (leaves end u es) ≡ 14 → 300_000 ≤ time
     → stateOf (leaves end u (before 300_000 es) .stock) ≡ Waiting → countOf mark-f es ≡ 1
@@ -317,6 +349,8 @@ pub record Demands : Type 1 where
   pub answers : BookAnswers
   pub fresh-is : FreshIs
   pub by-story : ByStory
+  pub calls-step : CallsStep
+  pub stories-grow : StoriesGrow
   pub refused : Refused
   pub others : OthersStay
   pub never-rubbish : NeverRubbish

@@ -1,5 +1,5 @@
 -- A stock read off its accepted history (demand 2): what document 01 says of held trades, quotes, the reference and the clock in "States",
--- "Moments" and "Messages", without the steps. What one event does is said in words (`Changes`).
+-- "Moments" and "Messages". What one event does is said in words (`Changes`); the window at an event that starts a reference is the stock's.
 -- Assumes nothing.
 use Prim.Native.Nat.{ℕ, _+_}
 use mathlib.Core.List.{List, [], _∷_}

@@ -1,8 +1,11 @@
 -- Document 01 in words: ranges, quotes, moments, rubbish, numbers and answers, in the order of its sections. Each name is a proposition
--- over numbers: no test of the rules is asked. The demands `numbers`, `moments`, `shows` and `mean` say that the rules compute this.
+-- over numbers, or a table of such: no test of the rules is asked. From the rules it takes names only, of states (Stock), of marks (Moments)
+-- and of fields; from the crate band, the bands. The demands `numbers`, `book-numbers`, `setup-numbers`, `moments-are`, `shows`, `answers` and
+-- `mean` say that the rules compute this. Bytes, and what a refusal leaves of them, are stated in the crates stock and book.
 --
--- To read it: `A and B`, `A or B`, `¬ A` are "and", "or", "not"; `a ≡ b` is "equals"; `(x : ℕ) × A` is "there is a number x with A";
--- `(x : ℕ) → A` is "for every x, A"; `n for A` is a row of a table: the number n, given where A holds and no row above does.
+-- To read it: `A and B`, `A or B`, `¬ A` are "and", "or", "not", and "and" binds before "or"; `a ≡ b` is "equals"; `(x : ℕ) × A` is "there is
+-- a number x with A"; `(x : ℕ) → A` is "for every x, A"; `n for A` is a row of a table: the number n, given where A holds and no row
+-- above does. The key of Demands.antt has the rest.
 -- Assumes nothing.
 use Prim.Native.Nat.{ℕ, _+_, _-_, _*_, _≤_, _<_}
 use mathlib.Core.List.{List, [], _∷_}
@@ -14,7 +17,6 @@ use Rattle.band.specs.Band.{percentOf, factorOf, bandsOf}
 use Rattle.band.specs.declared.Limits.{Limits}
 use Rattle.rules.specs.Stock.{Trade, Whole, Waiting, Trading, Limit, Paused, Late, Closed, stateOf, clockOf}
 use Rattle.rules.specs.Moments.{mark-z, mark-w, mark-x, mark-p, mark-c, mark-v, mark-f, mark-h}
-use Rattle.rules.specs.Messages.{timeOf}
 use Rattle.rules.specs.declared.Side.{Side}
 use Rattle.rules.specs.declared.Answer.{Answer}
 use Rattle.rules.specs.declared.Setup.{Setup}
@@ -106,11 +108,11 @@ BestOffer s best =
     IsOneOf best (s .quotes .offers) and OfferCounts s best
     and ((offer : ℕ) → IsOneOf offer (s .quotes .offers) → OfferCounts s offer → best ≤ offer)
 
--- flag 2 on a side, a straddle: the best bid is below the lower band, or the best offer above the upper
+-- flag 2 on a side, as it is shown below, a straddle: the best bid is below the lower band, or the best offer above the upper
 abbrev pub Straddle : Stock → Type 0
 Straddle s = (l : Limits) × Bands s l × (((bid : ℕ) × BestBid s bid × (bid < l .lower)) or ((offer : ℕ) × BestOffer s offer × (l .upper < offer)))
 
--- flag 3 on a side: the best bid is the upper band, or the best offer the lower
+-- flag 3 on a side, as it is shown below: the best bid is the upper band, or the best offer the lower
 abbrev pub AtBand : Stock → Type 0
 AtBand s = (l : Limits) × Bands s l × (BestBid s (l .upper) or BestOffer s (l .lower))
 
@@ -155,7 +157,8 @@ abbrev pub oldestAt : List Trade → ℕ
 oldestAt [] = 0
 oldestAt (t ∷ ts) = t .at
 
--- the table of moments, in the order of ties; w is still to come while the clock is before it, f and h while their markers are not 0
+-- the table of moments, in the order of ties, each with its states: up to Limit these are 0, 1 and 2, up to Late 0 to 4. w is still to come
+-- while the clock is before it, f and h while their markers are not 0; v is that of the oldest trade
 abbrev pub moments : Whole → List Coming
 moments h =
     let s = h .stock in
@@ -204,7 +207,8 @@ BadQuote q = Some (λ bid. ¬ IsSide bid) (q .bids) or Some (λ offer. ¬ IsSide
 abbrev pub BadReference : Stock → Type 0
 BadReference s = ¬ (s .reference .price ≤ 999_999_999) or (s .reference .price ≡ 0 and Trading ≤ stateOf s and stateOf s ≤ Late)
 
--- a held trade with a price out of range, dated after the clock (so that a time out of range is bad too), or before the trade ahead of it
+-- a held trade with a price out of range, dated after the clock, or before the trade ahead of it; a time out of range is after the clock, or
+-- the clock is out of range itself (`BadTime`)
 abbrev pub BadTrade : ℕ → ℕ → List Trade → Type 0
 BadTrade clock ahead [] = ⊥
 BadTrade clock ahead (t ∷ ts) = (¬ IsPrice (t .price) or clock < t .at or t .at < ahead) or BadTrade clock (t .at) ts
@@ -239,7 +243,7 @@ OutOfRange end (P time participant) = ¬ IsParticipant participant or ¬ IsTime 
 OutOfRange end (R time participant price) = ¬ IsParticipant participant or ¬ IsPrice price or ¬ IsTime end time
 OutOfRange end (X time participant price) = ¬ IsParticipant participant or ¬ IsPrice price or ¬ IsTime end time
 
--- 12: a price outside bands in force
+-- 12: a price outside bands in force; their k is that of the clock, and so that of the message's time, or a w is unsettled and gives 6
 abbrev pub Outside : Stock → ℕ → Type 0
 Outside s price = (l : Limits) × Bands s l × (price < l .lower or l .upper < price)
 
@@ -284,16 +288,25 @@ ownRefusals (X time participant price) h =
     10 for (time < s .end) ∷
     []
 
+-- the time that a message names
+abbrev pub timeIn : Message → ℕ
+timeIn (T time price) = time
+timeIn (Q time participant bid offer) = time
+timeIn (O time participant price) = time
+timeIn (P time participant) = time
+timeIn (R time participant price) = time
+timeIn (X time participant price) = time
+
 -- a message: 1, 4, 5, 6, and its own
 abbrev pub refusals : Message → Whole → List Number
 refusals m h =
     1 for Rubbish h ∷
     4 for OutOfRange (h .stock .end) m ∷
-    5 for (timeOf m < clockOf (h .stock)) ∷
-    6 for Due (timeOf m) h ∷
+    5 for (timeIn m < clockOf (h .stock)) ∷
+    6 for Due (timeIn m) h ∷
     ownRefusals m h
 
--- settling to a time: 1, 4, and 14 where nothing is due
+-- settling to a time: 1, 4, and 14 where nothing is due; 5 is for messages only
 abbrev pub settleRefusals : ℕ → Whole → List Number
 settleRefusals time h =
     1 for Rubbish h ∷
@@ -301,7 +314,7 @@ settleRefusals time h =
     14 for (¬ Due time h) ∷
     []
 
--- reading: 1
+-- reading, which changes nothing: 1
 abbrev pub readRefusals : Whole → List Number
 readRefusals h = 1 for Rubbish h ∷ []
 
