@@ -2,7 +2,7 @@
 
 A *law* is a theorem that proves a field of a record Laws or Demands of the crate's specs/. A theorem is *in words* where its type
 cites a definition of crates/forms/specs/Words, of crates/rules/specs/Words or Changes, `Decides`, which ties a test to words, or a
-definition of proofs/ that does.
+definition of proofs/ that does. Local definitions of one name in one file count as one.
 """
 import re
 from pathlib import Path

@@ -2,21 +2,21 @@
 -- Assumes nothing.
 use Prim.Native.Nat.{ℕ, _≤_, _<_}
 use mathlib.Core.Bool.{Bool, true, false}
-use mathlib.Core.List.{List, [], _∷_, _++_, append-assoc}
+use mathlib.Core.List.{List, [], _∷_, _++_}
 use mathlib.Core.Path.{_≡_, refl, sym, ap, _∙_, subst}
 use native.Mathlib.Omega.{arith}
 use borrow.Author.Tests.{eqb-true, eqb-false}
 use lib.Dec.{eqb, ltb}
 use lib.ListN.{length, set, length-set}
 use lib.Seq.{getD-set-same, getD-set-other}
-use Rattle.forms.specs.Choice.{if_then_else_}
 use Rattle.forms.proofs.Choice.{if-true, if-false, if-arms}
 use Rattle.rules.specs.Machine.{Machine, MachineLaws, Call, tell, settle, message, moment, messages, notices, On, of, Every, History, number, done, event, Lawful, left, Book, stock, numberIn, stepIn, happens, run, log, ByHistory, Alike}
 
 pub of-append : {A : Type 0} (i : ℕ) (xs ys : List (On A)) → of i (xs ++ ys) ≡ of i xs ++ of i ys
 unfolding of
 of-append i [] ys = refl
-of-append i (x ∷ xs) ys = rw (of-append i xs ys) (sym (append-assoc (if eqb i (x .at) then x .it ∷ [] else []) (of i xs) (of i ys)))
+of-append i (x ∷ xs) ys =
+    if-arms (λ ws. ws ++ of i (xs ++ ys) ≡ (ws ++ of i xs) ++ of i ys) _ (λ _. ap (λ zs. x .it ∷ zs) (of-append i xs ys)) (λ _. of-append i xs ys)
 
 module _ (𝓜 : Machine) (L : MachineLaws 𝓜) where
   open Machine 𝓜 using (Stock, Message, Notice, time, date, clock, Due, tells, settles, after, fire, notice)

@@ -39,7 +39,7 @@ clock end u es a =
     let k = kept-left (fresh end u) es (a .lawful) in
     (ap (λ k. k .0) k, ap (λ k. k .1) k, ap (λ k. k .2) k)
 
--- ------------------------------------------------------------------ a moment that closingMark, and one that does not
+-- ------------------------------------------------------------------ a moment that closes, and one that does not
 
 closing-mark : (mark : ℕ) → closingMark mark ≡ true → (mark ≡ mark-z) ⊎ (mark ≡ mark-c)
 closing-mark mark e = go (eqb mark mark-z) refl (eqb mark mark-c) refl

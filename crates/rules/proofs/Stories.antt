@@ -69,11 +69,14 @@ length-run end b (c ∷ cs) = length-run end (stepIn machine (blank end) b c) cs
 
 pub stories-grow : StoriesGrow
 unfolding happens of
-stories-grow end us i = (
-  refl,
-  λ cs j l. (
-    (λ m. let c : On (Call Message) = record { at = j; it = tell m } in (grows cs c l, stays cs c l)),
-    (λ time. let c : On (Call Message) = record { at = j; it = settle time } in (grows cs c l, stays cs c l)),
+stories-grow end us = (
+  length-map us (fresh end),
+  λ i. (
+    refl,
+    λ cs j l. (
+      (λ m. let c : On (Call Message) = record { at = j; it = tell m } in (grows i cs c l, stays i cs c l)),
+      (λ time. let c : On (Call Message) = record { at = j; it = settle time } in (grows i cs c l, stays i cs c l)),
+    ),
   ),
 )
   where
@@ -84,28 +87,28 @@ stories-grow end us i = (
     in-book cs c l = rw (length-run end (book end us) cs ∙ length-map us (fresh end)) l
 
     -- the call named the stock and was accepted
-    Its : Calls machine → On (Call Message) → Type 0
-    Its cs c = i ≡ c .at and number machine (c .it) (now end us cs (c .at)) ≡ 0
+    Its : ℕ → Calls machine → On (Call Message) → Type 0
+    Its i cs c = i ≡ c .at and number machine (c .it) (now end us cs (c .at)) ≡ 0
 
     log-more : (b : List Whole) (cs : Calls machine) (c : On (Call Message))
         → log machine (blank end) b (cs ++ (c ∷ [])) ≡ log machine (blank end) b cs ++ happens machine (blank end) (run machine (blank end) b cs) c
     log-more b [] c = append-nil (happens machine (blank end) b c)
     log-more b (x ∷ cs) c = rw (log-more (stepIn machine (blank end) b x) cs c) (sym (append-assoc (happens machine (blank end) b x) _ _))
 
-    story-more : (cs : Calls machine) (c : On (Call Message))
+    story-more : (i : ℕ) (cs : Calls machine) (c : On (Call Message))
         → story end us (cs ++ (c ∷ [])) i ≡ story end us cs i ++ of i (happens machine (blank end) (there cs) c)
-    story-more cs c = ap (of i) (log-more (book end us) cs c) ∙ of-append i (log machine (blank end) (book end us) cs) _
+    story-more i cs c = ap (of i) (log-more (book end us) cs c) ∙ of-append i (log machine (blank end) (book end us) cs) _
 
-    none : (cs : Calls machine) (c : On (Call Message)) → c .at < length us → ¬ Its cs c
+    none : (i : ℕ) (cs : Calls machine) (c : On (Call Message)) → c .at < length us → ¬ Its i cs c
         → let n = number machine (c .it) (now end us cs (c .at)) in (n ≡ 0) ⊎ (¬ (n ≡ 0)) → of i (happens machine (blank end) (there cs) c) ≡ []
-    none cs c l n (inl z) = rw (if-true _ _ _ (accepted end (there cs) c (in-book cs c l) z), if-false _ _ _ (ne-eqb i (c .at) (λ e. n (e, z))))
-    none cs c l n (inr m) = rw (if-false _ _ _ (refused end (there cs) c (in-book cs c l) m))
+    none i cs c l n (inl z) = rw (if-true _ _ _ (accepted end (there cs) c (in-book cs c l) z), if-false _ _ _ (ne-eqb i (c .at) (λ e. n (e, z))))
+    none i cs c l n (inr m) = rw (if-false _ _ _ (refused end (there cs) c (in-book cs c l) m))
 
-    grows : (cs : Calls machine) (c : On (Call Message)) → c .at < length us → Its cs c
+    grows : (i : ℕ) (cs : Calls machine) (c : On (Call Message)) → c .at < length us → Its i cs c
         → story end us (cs ++ (c ∷ [])) i ≡ story end us cs i ++ (event machine (c .it) (now end us cs (c .at)) ∷ [])
-    grows cs c l k = story-more cs c
+    grows i cs c l k = story-more i cs c
         ∙ rw (if-true _ _ _ (accepted end (there cs) c (in-book cs c l) (k .1)), if-true _ _ _ (eq-eqb i (c .at) (k .0)))
 
-    stays : (cs : Calls machine) (c : On (Call Message)) → c .at < length us → ¬ Its cs c
+    stays : (i : ℕ) (cs : Calls machine) (c : On (Call Message)) → c .at < length us → ¬ Its i cs c
         → story end us (cs ++ (c ∷ [])) i ≡ story end us cs i
-    stays cs c l n = story-more cs c ∙ ap (λ es. story end us cs i ++ es) (none cs c l n (either-way _ (by-eq _ 0))) ∙ append-nil _
+    stays i cs c l n = story-more i cs c ∙ ap (λ es. story end us cs i ++ es) (none i cs c l n (either-way _ (by-eq _ 0))) ∙ append-nil _

@@ -1,6 +1,7 @@
 -- Document 01 in words: what an event changes, and what it leaves ("States", "Moments", "Messages"). An event is a message that was
 -- accepted or a moment that happened; h is the stock that it comes to, and s′ the stock that it leaves. No test of the rules is asked;
--- windows and quotes are worked out by functions of this file. The demands `trades`, `quotes`, `reference`, `states` and `kept` say that each
+-- windows and quotes are worked out by functions of this file. Where a reference starts, the window that the event leaves is the rules', which
+-- `trades` says in words, and `with-quotes` is the rules' setter. The demands `trades`, `quotes`, `reference`, `states` and `kept` say that each
 -- event does this, and `changes-only` that together they leave nothing of a stock open. Words.antt says how to read it.
 -- Assumes nothing.
 use Prim.Native.Nat.{ℕ, _+_, _-_, _≤_}
@@ -39,7 +40,7 @@ abbrev pub dateOf : Event Message Notice → ℕ
 dateOf (message m) = timeIn m
 dateOf (moment n) = n .moment .time
 
--- something is new where the words hold, and as before where they do not
+-- `now` is `new` where the words hold, and `before` where they do not
 abbrev pub IsNew : {A : Type 0} → Type 0 → A → A → A → Type 0
 IsNew Words now new before = (Words and now ≡ new) or (¬ Words and now ≡ before)
 
@@ -99,7 +100,7 @@ abbrev pub LeavesLimit : Whole → (participant bid offer : ℕ) → Type 0
 LeavesLimit h participant bid offer =
     stateOf (h .stock) ≡ Limit and ¬ AtBand (with-quotes (quotesWith (h .stock .quotes) participant bid offer) (h .stock))
 
--- the Test finds that the mean of the window w is to be the reference: in Trading, with the hold ended and the window not empty
+-- the Test finds that the mean of the window w is to be the reference: in Trading, with the hold ended (0) and the window not empty
 abbrev pub Test : ℕ → Whole → List Trade → ℕ → Type 0
 Test hold h w mean = stateOf (h .stock) ≡ Trading and hold ≡ 0 and IsMean w mean and OnePercent mean (h .stock .reference .price)
 

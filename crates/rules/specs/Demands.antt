@@ -9,7 +9,9 @@
 --   P → Q, P ↔ Q            if P then Q, P exactly if Q
 --   P × Q, P and Q          both
 --   P ⊎ Q, P or Q, ¬ P      one of them, not P
---   a ≡ b                   a equals b
+--   ⊥, Otherwise            what never holds, what always does
+--   a ≡ b, a - b            a equals b, the difference, which is 0 where b is the greater
+--   Some P l, IsOneOf n l   P holds of one of the list l, n is one of l
 --   a ∷ b ∷ [], as ++ bs    a list of a and b, two lists in a row
 --   getD l i d              the ith of l, from 0, and d where l has none
 --   s .end, k .0, k .1      a record's field `end`, and the first and the second of a pair
@@ -18,7 +20,7 @@
 --   Gives table n           n is the number of the table's first row whose words hold, and 0 where no row's do
 --   tells m h               the number that the stock h answers the message m with
 --   settles time h, reads h the same of settling to a time, and of reading
---   after m h, fire h       the stock after an accepted message, and after its earliest moment
+--   after m h, fire h       the stock after an accepted message, and after its earliest moment; h′ and s′ are stocks after an event
 --   becomes machine h e     the stock after an event e, which is a message or a moment
 --   afterTelling, afterSettling, tellAnswer, settleAnswer, readAnswer
 --                           the stock after such a call, accepted or refused, and its answer; the names with `book` are those of a book
@@ -41,7 +43,7 @@ use Rattle.rules.specs.Moments.{mark-p, mark-f, no-moment, fire}
 use Rattle.rules.specs.Messages.{after}
 use Rattle.rules.specs.Numbers.{tells, settles, reads, setsUp, afterTelling, afterSettling, notice, tellAnswer, settleAnswer, readAnswer, setupAnswer, fresh}
 use Rattle.rules.specs.Machine.{Machine, MachineLaws, Alike, Call, tell, settle, On, Event, message, moment, messages, notices, Lawful, becomes, left, Calls, stock, numberIn, stepIn}
-use Rattle.rules.specs.Book.{machine, Story, Accepted, noSetup, blank, now, story, Settled, bookTells, bookSettles, bookReads}
+use Rattle.rules.specs.Book.{machine, Story, Accepted, noSetup, blank, book, now, story, Settled, bookTells, bookSettles, bookReads}
 use Rattle.rules.specs.Words.{IsShape, IsEnd, IsSetup, IsMean, Bands, AtBand, Crossing, moments, IsFirst, Rubbish, refusals, settleRefusals, readRefusals, bookRefusals, setupRefusals, ShowsNothing, Shows}
 use Rattle.rules.specs.Changes.{recent, TradesAfter, Quoted, QuotesAfter, ReferenceAfter, stateAfter, KeptAfter}
 use Rattle.rules.specs.Readings.{joined, lastQuote, NoneStarted, StartedBy, lastDate, countOf, MomentsOnly}
@@ -77,8 +79,8 @@ NumbersAre = (h : Whole) (n : ℕ)
     × ((time : ℕ) → (settles time h ≡ n) ↔ Gives (settleRefusals time h) n)
     × ((reads h ≡ n) ↔ Gives (readRefusals h) n)
 
--- A call on a book is answered so too, the book's shape and the number of the stock looked at first; a book of the right shape gives what
--- the machine's stocks give.
+-- A call on a book is answered so too, the book's shape and the number of the stock looked at first. Of a book of the right shape
+-- `numberIn`, by which calls change a book, is that number.
 abbrev pub BookNumbersAre : Type 0
 BookNumbersAre = (end : ℕ) (b : List Whole) (times prices i n : ℕ)
     → let h = stock machine (blank end) b i in
@@ -169,18 +171,19 @@ CallsStep = (end : ℕ) (b : List Whole) (i : ℕ)
     × ((time : ℕ) → let b′ = stepIn machine (blank end) b (record { at = i; it = settle time }) in
     (length b′ ≡ length b) × (i < length b → stock machine (blank end) b′ i ≡ afterSettling time h))
 
--- A story begins empty. An accepted message is the next event of the story of the stock that it names, and so is a settled moment; no other
--- call is in a story.
+-- A setup starts a stock for each of its own, whose story is empty. An accepted message is the next event of the story of the stock that it
+-- names, and so is a settled moment; no other call on a stock of the book is in a story.
 abbrev pub StoriesGrow : Type 0
-StoriesGrow = (end : ℕ) (us : List Setup) (i : ℕ) → (story end us [] i ≡ []) × ((cs : Calls machine) (j : ℕ) → j < length us
+StoriesGrow = (end : ℕ) (us : List Setup) → (length (book end us) ≡ length us)
+    × ((i : ℕ) → (story end us [] i ≡ []) × ((cs : Calls machine) (j : ℕ) → j < length us
     → let h = now end us cs j in
     let after-call : Call Message → Story = λ it. story end us (cs ++ (record { at = j; it = it } ∷ [])) i in
     ((m : Message) → (i ≡ j and tells m h ≡ 0 → after-call (tell m) ≡ story end us cs i ++ (message m ∷ []))
     × (¬ (i ≡ j and tells m h ≡ 0) → after-call (tell m) ≡ story end us cs i))
     × ((time : ℕ) → (i ≡ j and settles time h ≡ 0 → after-call (settle time) ≡ story end us cs i ++ (moment (notice h) ∷ []))
-    × (¬ (i ≡ j and settles time h ≡ 0) → after-call (settle time) ≡ story end us cs i)))
+    × (¬ (i ≡ j and settles time h ≡ 0) → after-call (settle time) ≡ story end us cs i))))
 
--- A call that a stock refuses changes nothing. One on a book of a wrong shape is refused by `book-numbers`; the crate `book` keeps its bytes.
+-- A call that a stock refuses changes nothing. One on a book of a wrong shape is given 1 (`book-numbers`); the crate book keeps its bytes.
 abbrev pub Refused : Type 0
 Refused = (end : ℕ) (b : List Whole) (c : On (Call Message)) → ¬ (numberIn machine (blank end) b c ≡ 0)
     → stepIn machine (blank end) b c ≡ b
@@ -296,7 +299,8 @@ TradesInBands = (h : Whole) (time price : ℕ) → tells (T time price) h ≡ 0
     → ((l : Limits) → Bands (h .stock) l → l .lower ≤ price and price ≤ l .upper)
     × ¬ (stateOf (h .stock) ≡ Paused or stateOf (h .stock) ≡ Late)
 
--- A moment begins a pause at t exactly when the limit state entered 15,000 before has lasted until t, and t is before the end.
+-- In a story settled to t or later a moment begins a pause at t exactly when the limit state entered 15,000 before has lasted until t, and
+-- t is before the end.
 abbrev pub PausesBegin : Type 0
 PausesBegin = (end : ℕ) (u : Setup) (es : Story) → Allowed end u es
     → (time : ℕ) → settles time (leaves end u es) ≡ 14 → (t : ℕ) → t ≤ time

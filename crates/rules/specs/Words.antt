@@ -80,7 +80,7 @@ OnePercent mean reference = 100 * reference + reference ≤ 100 * mean or 100 * 
 
 -- ------------------------------------------------------------------ "Quotes and flags"
 
--- the bands of the reference by the stock's close, and by the k of a time ("Band arithmetic")
+-- the bands of the reference, a fraction over 1, by the stock's close, and by the k of a time ("Band arithmetic")
 abbrev pub bandsAt : Stock → ℕ → Limits
 bandsAt s time = bandsOf (s .reference .price) 1 (percentOf (s .setup .tier) (s .setup .close)) (factorOf (s .setup .leverage) time (s .end))
 
@@ -108,11 +108,11 @@ BestOffer s best =
     IsOneOf best (s .quotes .offers) and OfferCounts s best
     and ((offer : ℕ) → IsOneOf offer (s .quotes .offers) → OfferCounts s offer → best ≤ offer)
 
--- flag 2 on a side, as it is shown below, a straddle: the best bid is below the lower band, or the best offer above the upper
+-- a straddle, which is flag 2 on a side: the best bid is below the lower band, or the best offer above the upper
 abbrev pub Straddle : Stock → Type 0
 Straddle s = (l : Limits) × Bands s l × (((bid : ℕ) × BestBid s bid × (bid < l .lower)) or ((offer : ℕ) × BestOffer s offer × (l .upper < offer)))
 
--- flag 3 on a side, as it is shown below: the best bid is the upper band, or the best offer the lower
+-- flag 3 on a side: the best bid is the upper band, or the best offer the lower
 abbrev pub AtBand : Stock → Type 0
 AtBand s = (l : Limits) × Bands s l × (BestBid s (l .upper) or BestOffer s (l .lower))
 
@@ -157,7 +157,7 @@ abbrev pub oldestAt : List Trade → ℕ
 oldestAt [] = 0
 oldestAt (t ∷ ts) = t .at
 
--- the table of moments, in the order of ties, each with its states: up to Limit these are 0, 1 and 2, up to Late 0 to 4. w is still to come
+-- the table of moments, in the order of ties, each with its states: up to Limit these are 0, 1 and 2, up to Late 0 to 4, from Trading to Late 1 to 4. w is still to come
 -- while the clock is before it, f and h while their markers are not 0; v is that of the oldest trade
 abbrev pub moments : Whole → List Coming
 moments h =
@@ -213,7 +213,7 @@ abbrev pub BadTrade : ℕ → ℕ → List Trade → Type 0
 BadTrade clock ahead [] = ⊥
 BadTrade clock ahead (t ∷ ts) = (¬ IsPrice (t .price) or clock < t .at or t .at < ahead) or BadTrade clock (t .at) ts
 
--- a state over 5; a setup number or E out of range; a kept time, a quote or the reference; in state 3 a pause start of E - 600,000 or later
+-- a state over 5; a setup number or E out of range; a bad kept time, quote or reference; in state 3 a pause start of E - 600,000 or later
 abbrev pub BadStock : Stock → Type 0
 BadStock s =
     Closed < stateOf s
@@ -243,7 +243,8 @@ OutOfRange end (P time participant) = ¬ IsParticipant participant or ¬ IsTime 
 OutOfRange end (R time participant price) = ¬ IsParticipant participant or ¬ IsPrice price or ¬ IsTime end time
 OutOfRange end (X time participant price) = ¬ IsParticipant participant or ¬ IsPrice price or ¬ IsTime end time
 
--- 12: a price outside bands in force; their k is that of the clock, and so that of the message's time, or a w is unsettled and gives 6
+-- 12: a price outside bands in force; in Trading their k is that of the clock, and so that of the message's time, or a w is unsettled and
+-- gives 6; in Limit it is that of the entry
 abbrev pub Outside : Stock → ℕ → Type 0
 Outside s price = (l : Limits) × Bands s l × (price < l .lower or l .upper < price)
 
@@ -318,7 +319,8 @@ settleRefusals time h =
 abbrev pub readRefusals : Whole → List Number
 readRefusals h = 1 for Rubbish h ∷ []
 
--- each of these on a book of so many stocks and places: before its own numbers 1 for the shape, and 3 for a stock number too large
+-- each of these on a book of so many stocks and places: before its own numbers, rubbish among them, 1 for the shape, and 3 for a stock number too
+-- large
 abbrev pub bookRefusals : (stocks times prices i : ℕ) → List Number → List Number
 bookRefusals stocks times prices i own =
     1 for (¬ IsShape stocks times prices) ∷
