@@ -41,13 +41,6 @@ unfolding if_then_else_
 if-arms P true p q = p refl
 if-arms P false p q = q refl
 
--- two choices by one test
-pub both-arms : {A B : Type 0} (F : A → B → Type 0) (b : Bool) {x y : A} {u v : B} → (b ≡ true → F x u) → (b ≡ false → F y v)
-    → F (if b then x else y) (if b then u else v)
-unfolding if_then_else_
-both-arms F true p q = p refl
-both-arms F false p q = q refl
-
 -- ------------------------------------------------------------------ the test that two numbers differ
 
 pub eq-not : (a b : ℕ) → a ≡ b → not (eqb a b) ≡ false

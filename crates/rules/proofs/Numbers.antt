@@ -1,7 +1,7 @@
 -- Every call gives the number that the words give, and no other.
 -- Assumes nothing.
 use Prim.Native.Nat.{ℕ, _≤_, _<_}
-use mathlib.Core.Bool.{false, not}
+use mathlib.Core.Bool.{true, false, not}
 use mathlib.Core.List.{List, [], _∷_}
 use mathlib.Core.Logic.{inl, inr, ⊎-elim}
 use mathlib.Core.Path.{_≡_, refl}
@@ -68,34 +68,23 @@ row-Q : (state : ℕ) → state < 6 → Gives (7 for (state ≡ Closed) ∷ []) 
 unfolding taken takenQ below if_then_else_
 row-Q state l = rw (cells 6 (taken 1) takenQ refl state l) (by-takenQ state)
 
-row-O : (state : ℕ) → state < 6 → Gives (7 for (state ≡ Closed) ∷ 9 for (¬ (state ≡ Waiting)) ∷ []) (taken 2 state)
-unfolding taken takenIn below if_then_else_
-row-O state l = rw (cells 6 (taken 2) (takenIn Waiting) refl state l) (by-takenIn Waiting state)
-
-row-P : (state : ℕ) → state < 6 → Gives (7 for (state ≡ Closed) ∷ 9 for (¬ (state ≡ Trading)) ∷ []) (taken 3 state)
-unfolding taken takenIn below if_then_else_
-row-P state l = rw (cells 6 (taken 3) (takenIn Trading) refl state l) (by-takenIn Trading state)
-
-row-R : (state : ℕ) → state < 6 → Gives (7 for (state ≡ Closed) ∷ 9 for (¬ (state ≡ Paused)) ∷ []) (taken 4 state)
-unfolding taken takenIn below if_then_else_
-row-R state l = rw (cells 6 (taken 4) (takenIn Paused) refl state l) (by-takenIn Paused state)
-
-row-X : (state : ℕ) → state < 6 → Gives (7 for (state ≡ Closed) ∷ 9 for (¬ (state ≡ Late)) ∷ []) (taken 5 state)
-unfolding taken takenIn below if_then_else_
-row-X state l = rw (cells 6 (taken 5) (takenIn Late) refl state l) (by-takenIn Late state)
+-- O, P, R and X are each taken in one state
+row-in : (k there : ℕ) → below 6 (λ state. eqb (taken k state) (takenIn there state)) ≡ true
+    → (state : ℕ) → state < 6 → Gives (7 for (state ≡ Closed) ∷ 9 for (¬ (state ≡ there)) ∷ []) (taken k state)
+row-in k there e state l = rw (cells 6 (taken k) (takenIn there) e state l) (by-takenIn there state)
 
 -- ------------------------------------------------------------------ a call on a stock
 
 -- the checks from 8 on: the primary, the table, and the message's own
 own-given : (m : Message) (h : Whole) → let s = h .stock in stateOf s < 6
     → Gives (ownRefusals m h) (first (8 when notPrimary (s .setup .primary) m ∷ tableCheck (taken (kind m) (stateOf s)) (ownChecks m (length (h .window)) s)))
-unfolding notPrimary ownChecks
+unfolding notPrimary ownChecks taken takenIn below if_then_else_
 own-given (T time price) h l = passed-over 8 _ _ (own-table _ _ _ _ refl (row-T _ l) (search (words, tables, outside-is)))
 own-given (Q time participant bid offer) h l = passed-over 8 _ _ (own-table _ _ _ _ refl (row-Q _ l) (search tables))
-own-given (O time participant price) h l = row 8 _ _ _ _ (search words) (λ _. own-table _ _ _ _ refl (row-O _ l) (search (words, tables)))
-own-given (P time participant) h l = row 8 _ _ _ _ (search words) (λ _. own-table _ _ _ _ refl (row-P _ l) (search (words, tables, straddle-is)))
-own-given (R time participant price) h l = row 8 _ _ _ _ (search words) (λ _. own-table _ _ _ _ refl (row-R _ l) (search (words, tables)))
-own-given (X time participant price) h l = row 8 _ _ _ _ (search words) (λ _. own-table _ _ _ _ refl (row-X _ l) (search (words, tables)))
+own-given (O time participant price) h l = row 8 _ _ _ _ (search words) (λ _. own-table _ _ _ _ refl (row-in 2 Waiting refl _ l) (search (words, tables)))
+own-given (P time participant) h l = row 8 _ _ _ _ (search words) (λ _. own-table _ _ _ _ refl (row-in 3 Trading refl _ l) (search (words, tables, straddle-is)))
+own-given (R time participant price) h l = row 8 _ _ _ _ (search words) (λ _. own-table _ _ _ _ refl (row-in 4 Paused refl _ l) (search (words, tables)))
+own-given (X time participant price) h l = row 8 _ _ _ _ (search words) (λ _. own-table _ _ _ _ refl (row-in 5 Late refl _ l) (search (words, tables)))
 
 pub told : (m : Message) (h : Whole) → Gives (refusals m h) (tells m h)
 unfolding tells checks messageChecks
