@@ -1,14 +1,15 @@
 """Which theorems of a crate are statements, and which of them a check refused. Used by tests/edits and tests/wrong-rules/run.
 
-A *law* is a theorem that proves a field of a record Laws or Demands of the crate's specs/. A theorem is *in words* where its type
-cites a definition of crates/forms/specs/Words, of crates/rules/specs/Words or Changes, `Decides`, which ties a test to words, or a
-definition of proofs/ that does. Local definitions of one name in one file count as one.
+A *law* is the theorem that proofs/ gives for a field of a record Laws or Demands of the crate's specs/, by itself or applied, as
+`part-put` in `λ i new xs f. part-put i new xs (f .places)`. A theorem is *in words* where its type cites a definition of specs/Words of
+forms, band, rules or book, of Changes of rules, `Decides`, which ties a test to words, or a definition of proofs/ that does. Local
+definitions of one name in one file count as one.
 """
 import re
 from pathlib import Path
 
 ROOT = Path(__file__).resolve().parent.parent
-WORDS = ("crates/forms/specs/Words.antt", "crates/rules/specs/Words.antt", "crates/rules/specs/Changes.antt")
+WORDS = [f"crates/{file}.antt" for file in ("forms/specs/Words", "band/specs/Words", "rules/specs/Words", "rules/specs/Changes", "book/specs/Words")]
 DECLARED = re.compile(r"^ *(?:(?:abbrev|unfoldable) )?(?:pub )?(record |data )?([^\s(){}:]+)((?: [({][^)}]*[)}])*) :(?: (.*))?$")
 
 
@@ -39,15 +40,17 @@ def tokens(text):
 
 
 def laws(crate):
-    """The theorems that prove the crate's laws, as pairs of a file's stem and a name."""
+    """The theorems that prove the crate's laws: a field, a file's stem and a name."""
     found = set()
     for spec in (ROOT / "crates" / crate / "specs").glob("*.antt"):
         for record, body in re.findall(r"^pub record (Laws|Demands) .*\n((?:[ \t].*\n|\n)*)", text_of(spec), re.M):
             proof = text_of(ROOT / "crates" / crate / "proofs" / f"{record}.antt")
-            given = dict(re.findall(r"^ *(\S+) = ([^\s;]+);", proof, re.M))
+            given = dict(re.findall(r"^  (\S+) = (?:λ [^.]*\. )?([^\s;]+)", proof, re.M))
             where = {name.split(" as ")[-1]: file for file, names in re.findall(r"^use \S*\.(\w+)\.\{([^}]*)\}", proof, re.M) for name in names.split(", ")}
-            fields = re.findall(r"^  pub (\S+) :", body, re.M)
-            found |= {(field, where.get(given.get(field, field), record), given.get(field, field)) for field in fields}
+            where.update((module + ".", file) for file, module in re.findall(rf"^use Rattle\.{crate}\.proofs\.\S*\.(\w+) as (\S+)$", proof, re.M))
+            for field in re.findall(r"^  pub (\S+) :", body, re.M):
+                module, name = re.fullmatch(r"(.*\.)?(.+)", given.get(field, field)).groups()
+                found.add((field, where.get(module or name, module or record), name))
     return found
 
 

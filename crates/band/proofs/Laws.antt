@@ -1,27 +1,28 @@
--- The laws of specs/Laws.antt. Those that callers cite by themselves are public.
+-- The laws of specs/Laws.antt; those in words are proved in Words.antt. Those that callers cite by themselves are public.
 -- Assumes nothing.
-use Prim.Native.Nat.{ℕ, _+_, _-_, _*_, _/_, _%_, _^_, _≤_, _<_, min}
+use Prim.Native.Nat.{ℕ, _+_, _-_, _*_, _/_, _^_, _≤_, _<_, min}
 use mathlib.Core.List.{List, [], _∷_, foldl}
 use mathlib.Core.Logic.{_⊎_, inl, inr}
-use mathlib.Core.Path.{_≡_, refl}
-use native.Mathlib.Nat.{mul-le-mul, mul-le-mul-right, le-of-mul-le-mul-right, mul-left-comm, mul-right-comm, mul-suc, add-mul, mul-mod-left, div-mul-le-self, lt-div-mul-add, le-div-iff-mul-le, div-lt-iff-lt-mul, div-zero, le-trans}
+use mathlib.Core.Path.{_≡_, refl, ap}
+use native.Mathlib.Nat.{mul-le-mul, mul-le-mul-right, le-of-mul-le-mul-right, mul-left-comm, mul-suc, add-mul, div-mul-le-self, le-div-iff-mul-le, div-lt-iff-lt-mul, div-zero, le-trans}
 use native.Mathlib.Decide.{ℕ-discrete}
 use native.Mathlib.Omega.{arith}
-use borrow.Author.Tests.{ltb-true, ltb-false, eqb-true, eqb-false, eq-eqb, ne-eqb}
+use borrow.Author.Tests.{ltb-true, ltb-false, eqb-true, eq-eqb, ne-eqb}
 use lib.Dec.{ltb, eqb}
 use lib.ListN.{length}
 use Rattle.forms.proofs.Choice.{if-true, if-false, if-arms}
 use Rattle.forms.proofs.Promises.{agree}
 use Rattle.band.specs.Band.{small, percentOf, factorOf, spreadOf, cent, lowerOf, upperOf, bandsOf, meanOf, movesOf}
-use Rattle.band.specs.Laws.{Within, Around, Ordered, UpperNot0, UpperFits, WholeCents, Nearest, MeanBetween, Laws}
+use Rattle.band.specs.Laws.{Within, Around, Ordered, UpperFits, MeanBetween, Laws}
+use Rattle.band.proofs.Words.{cent-nearest, percent-is, factor-is, spread-is, cent-is, bands-are, mean-is, moves-is, bands-scaled, moves-scaled}
 use Rattle.band.proofs.Examples.{examples}
 
 -- ------------------------------------------------------------------ percent and factor
 
 -- the small rule, or a percent from 5 to 20
-pub percent-is : (tier close : ℕ) → (percentOf tier close ≡ small) ⊎ ((5 ≤ percentOf tier close) × (percentOf tier close ≤ 20))
+percent-range : (tier close : ℕ) → (percentOf tier close ≡ small) ⊎ ((5 ≤ percentOf tier close) × (percentOf tier close ≤ 20))
 unfolding percentOf
-percent-is tier close =
+percent-range tier close =
     let P : ℕ → Type 0 = λ p. (p ≡ small) ⊎ ((5 ≤ p) × (p ≤ 20)) in
     if-arms P _ (λ e. if-arms P _ (λ e. inr (omega arith)) (λ e. inr (omega arith)))
     (λ e. if-arms P _ (λ e. inr (omega arith)) (λ e. inl refl))
@@ -43,15 +44,11 @@ factor-least leverage time end h i =
 
 -- ------------------------------------------------------------------ rounding
 
--- of x / d, with q the whole cents: q * (10,000 * d) <= x + 5,000 * d < (q + 1) * (10,000 * d)
-pub nearest : Nearest
-unfolding cent
+-- a rounded number is within half a cent of x / d
+nearest : (x d : ℕ) → 1 ≤ d → (100 * (cent x d * d) ≤ x + 5_000 * d) × (x < 100 * (cent x d * d) + 5_000 * d)
 nearest x d h =
-    let q = (x + 5_000 * d) / (10_000 * d) in
-    let below = div-mul-le-self (x + 5_000 * d) (10_000 * d) in
-    let above = lt-div-mul-add {a = x + 5_000 * d} {b = 10_000 * d} (omega arith) in
-    let at = mul-left-comm q 10_000 d in
-    let by = mul-right-comm q 100 d in
+    let near = cent-nearest x d h in
+    let by = ap (λ price. price * d) (near .1) in
     (omega arith, omega arith)
 
 cent-mono : (x y d : ℕ) → 1 ≤ d → x ≤ y → cent x d ≤ cent y d
@@ -85,12 +82,12 @@ spread-most n d p k i (inr j) =
     let m : k * p * n ≤ 6 * 20 * n = mul-le-mul-right n (mul-le-mul i (j .1)) in
     rw (ne-eqb p small (λ e. omega arith), if-false) (omega arith)
 
--- the upper band is the rounded number, and at least 1
-upper-above : (n d percent k : ℕ) → (cent (100 * n + spreadOf n d percent k) d ≤ upperOf n d percent k) × (1 ≤ upperOf n d percent k)
+-- the upper band is at least the rounded number
+upper-above : (n d percent k : ℕ) → cent (100 * n + spreadOf n d percent k) d ≤ upperOf n d percent k
 unfolding upperOf
 upper-above n d p k =
     let u = cent (100 * n + spreadOf n d p k) d in
-    if-arms (λ x. (u ≤ x) × (1 ≤ x)) (eqb u 0) (λ e. let z = eqb-true u 0 e in omega arith) (λ e. let z = eqb-false u 0 e in omega arith)
+    if-arms (λ x. u ≤ x) (eqb u 0) (λ e. let z = eqb-true u 0 e in omega arith) (λ e. omega arith)
 
 pub around : Around
 unfolding lowerOf
@@ -98,19 +95,16 @@ around n d tier close leverage time end h i l m =
     let p = percentOf tier close in
     let k = factorOf leverage time end in
     let a = spreadOf n d p k in
-    let far = spread-least n d p k i (factor-least leverage time end l m) (percent-is tier close) in
+    let far = spread-least n d p k i (factor-least leverage time end l m) (percent-range tier close) in
     let down = nearest (100 * n - a) d h in
     let up = nearest (100 * n + a) d h in
-    let more = mul-le-mul-right d (upper-above n d p k .0) in
+    let more = mul-le-mul-right d (upper-above n d p k) in
     (omega arith, omega arith)
 
 pub ordered : Ordered
 unfolding lowerOf
 ordered n d p k h =
-    le-trans (cent-mono (100 * n - spreadOf n d p k) (100 * n + spreadOf n d p k) d h (omega arith)) (upper-above n d p k .0)
-
-pub upper-not-0 : UpperNot0
-upper-not-0 n d p k e = let h = upper-above n d p k .1 in omega arith
+    le-trans (cent-mono (100 * n - spreadOf n d p k) (100 * n + spreadOf n d p k) d h (omega arith)) (upper-above n d p k)
 
 pub upper-fits : UpperFits
 unfolding upperOf
@@ -119,15 +113,11 @@ upper-fits n d tier close leverage time end h i =
     let k = factorOf leverage time end in
     let a = spreadOf n d p k in
     let u = cent (100 * n + a) d in
-    let near = spread-most n d p k (factor-most leverage time end) (percent-is tier close) in
+    let near = spread-most n d p k (factor-most leverage time end) (percent-range tier close) in
     let below = nearest (100 * n + a) d h in
     let by-d : u * d ≤ 2_200_009_100 * d = omega arith in
     let small-u : u ≤ 2_200_009_100 = le-of-mul-le-mul-right by-d h in
     if-arms (λ x. x < 2 ^ 32) (eqb u 0) (λ e. omega arith) (λ e. omega arith)
-
-pub whole-cents : WholeCents
-unfolding lowerOf upperOf cent
-whole-cents n d p k = (mul-mod-left _ 100, if-arms (λ x. x % 100 ≡ 0) _ (λ e. refl) (λ e. mul-mod-left _ 100))
 
 -- ------------------------------------------------------------------ the mean
 
@@ -168,12 +158,18 @@ mean-between low high x xs w =
 
 pub laws : Laws
 laws = record {
+  percent-is = percent-is;
+  factor-is = factor-is;
+  spread-is = spread-is;
+  cent-is = cent-is;
+  bands-are = bands-are;
+  mean-is = mean-is;
+  moves-is = moves-is;
+  bands-scaled = bands-scaled;
+  moves-scaled = moves-scaled;
   around = around;
   ordered = ordered;
-  upper-not-0 = upper-not-0;
   upper-fits = upper-fits;
-  whole-cents = whole-cents;
-  nearest = nearest;
   mean-between = mean-between;
   mean-in-range = mean-between 1 999_999_999;
   examples = examples;

@@ -1,14 +1,19 @@
--- What the band arithmetic obeys. Each field is a theorem: `laws` of proofs/Laws.antt proves the record.
+-- What the band arithmetic obeys. Each field is a theorem: `laws` of proofs/Laws.antt proves the record. `A ↔ B` is "A exactly where B":
+-- a law of that form fixes a function's result by the words of Words.antt.
 -- Assumes nothing.
-use Prim.Native.Nat.{ℕ, _+_, _*_, _%_, _^_, _≤_, _<_}
+use Prim.Native.Nat.{ℕ, _+_, _*_, _^_, _≤_, _<_}
 use mathlib.Core.Bool.{true}
 use mathlib.Core.List.{List, [], _∷_, foldl}
+use mathlib.Core.Logic.{_↔_}
 use mathlib.Core.Path.{_≡_}
 use lib.ListN.{length}
 use Rattle.forms.specs.Promises.{Determines}
 use Rattle.forms.specs.Tables.{every}
-use Rattle.band.specs.Band.{percentOf, factorOf, lowerOf, upperOf, bandsOf, cent, meanOf, movesOf}
+use Rattle.forms.specs.Words.{Gives}
+use Rattle.band.specs.Band.{percentOf, factorOf, spreadOf, lowerOf, upperOf, bandsOf, cent, meanOf, movesOf}
+use Rattle.band.specs.Words.{percents, factors, spreads, NearestCent, AreBands, IsMean, OnePercent}
 use Rattle.band.specs.Examples.{right, byHand}
+use Rattle.band.specs.declared.Limits.{Limits}
 
 -- every price of the list is from `low` to `high`
 abbrev pub Within : ℕ → ℕ → List ℕ → Type 0
@@ -17,6 +22,46 @@ Within low high (price ∷ prices) = ((low ≤ price) × (price ≤ high)) × Wi
 
 abbrev pub meanOfAll : List ℕ → ℕ
 meanOfAll prices = meanOf (foldl _+_ 0 prices) (length prices)
+
+-- ------------------------------------------------------------------ what Band.antt computes, in words
+
+-- the percent of tiers 1 and 2, of every close: so it is the same within a range of closes
+abbrev pub PercentIs : Type 0
+PercentIs = (tier close percent : ℕ) → 1 ≤ tier → tier ≤ 2 → (percentOf tier close ≡ percent) ↔ Gives (percents tier close) percent
+
+-- k of a leverage up to 3, at every time of every session
+abbrev pub FactorIs : Type 0
+FactorIs = (leverage time end k : ℕ) → leverage ≤ 3 → (factorOf leverage time end ≡ k) ↔ Gives (factors leverage time end) k
+
+-- A of every reference, percent and k
+abbrev pub SpreadIs : Type 0
+SpreadIs = (n d percent k a : ℕ) → (spreadOf n d percent k ≡ a) ↔ Gives (spreads n d percent k) a
+
+-- rounding to the cent
+abbrev pub CentIs : Type 0
+CentIs = (x d price : ℕ) → 1 ≤ d → (cent x d ≡ price) ↔ NearestCent x d price
+
+-- both bands of every reference, percent and k
+abbrev pub BandsAre : Type 0
+BandsAre = (n d percent k : ℕ) (l : Limits) → 1 ≤ d → (bandsOf n d percent k ≡ l) ↔ AreBands n d percent k (l .lower) (l .upper)
+
+-- the mean of one price or more
+abbrev pub MeanIs : Type 0
+MeanIs = (sum count mean : ℕ) → 1 ≤ count → (meanOf sum count ≡ mean) ↔ IsMean sum count mean
+
+-- the one percent test
+abbrev pub MovesIs : Type 0
+MovesIs = (m c n d : ℕ) → (movesOf m c n d ≡ true) ↔ OnePercent m c n d
+
+-- ------------------------------------------------------------------ another fraction for the same number
+
+-- the bands depend on the number n / d alone: 2n / 2d has the same
+abbrev pub BandsScaled : Type 0
+BandsScaled = (j n d percent k : ℕ) → 1 ≤ j → bandsOf (j * n) (j * d) percent k ≡ bandsOf n d percent k
+
+-- and the test on the numbers m / c and n / d
+abbrev pub MovesScaled : Type 0
+MovesScaled = (i j m c n d : ℕ) → 1 ≤ i → 1 ≤ j → movesOf (i * m) (i * c) (j * n) (j * d) ≡ movesOf m c n d
 
 -- ------------------------------------------------------------------ bands, of a reference n / d
 
@@ -30,22 +75,10 @@ Around = (n d tier close leverage time end : ℕ) → 1 ≤ d → 1_000 * d ≤ 
 abbrev pub Ordered : Type 0
 Ordered = (n d percent k : ℕ) → 1 ≤ d → lowerOf n d percent k ≤ upperOf n d percent k
 
--- the upper band is never 0
-abbrev pub UpperNot0 : Type 0
-UpperNot0 = (n d percent k : ℕ) → upperOf n d percent k ≡ 0 → ⊥
-
--- up to the largest price it fits 32 bits
+-- up to the largest price the upper band fits 32 bits
 abbrev pub UpperFits : Type 0
 UpperFits = (n d tier close leverage time end : ℕ) → 1 ≤ d → n ≤ 999_999_999 * d
     → upperOf n d (percentOf tier close) (factorOf leverage time end) < 2 ^ 32
-
--- bands are whole cents
-abbrev pub WholeCents : Type 0
-WholeCents = (n d percent k : ℕ) → (lowerOf n d percent k % 100 ≡ 0) × (upperOf n d percent k % 100 ≡ 0)
-
--- a rounded number is within half a cent of x / d, and above it at the half
-abbrev pub Nearest : Type 0
-Nearest = (x d : ℕ) → 1 ≤ d → (100 * (cent x d * d) ≤ x + 5_000 * d) × (x < 100 * (cent x d * d) + 5_000 * d)
 
 -- ------------------------------------------------------------------ the mean
 
@@ -62,12 +95,18 @@ MeanInRange = (price : ℕ) (prices : List ℕ) → Within 1 999_999_999 (price 
 -- ------------------------------------------------------------------ all of them
 
 pub record Laws : Type 0 where
+  pub percent-is : PercentIs
+  pub factor-is : FactorIs
+  pub spread-is : SpreadIs
+  pub cent-is : CentIs
+  pub bands-are : BandsAre
+  pub mean-is : MeanIs
+  pub moves-is : MovesIs
+  pub bands-scaled : BandsScaled
+  pub moves-scaled : MovesScaled
   pub around : Around
   pub ordered : Ordered
-  pub upper-not-0 : UpperNot0
   pub upper-fits : UpperFits
-  pub whole-cents : WholeCents
-  pub nearest : Nearest
   pub mean-between : MeanBetween
   pub mean-in-range : MeanInRange
   -- what was worked out by hand is what the definitions give

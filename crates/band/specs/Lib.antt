@@ -1,3 +1,4 @@
 pub mod Band
+pub mod Words
 pub mod Laws
 pub mod Examples

@@ -2,12 +2,12 @@
 -- Assumes nothing.
 use Prim.Native.Nat.{ℕ, _*_, _≤_, _<_}
 use mathlib.Core.Bool.{Bool, true, false}
-use mathlib.Core.List.{List, [], _∷_, _++_, map}
+use mathlib.Core.List.{List, [], _∷_, _++_}
 use mathlib.Core.Path.{_≡_, refl, sym, ap, _∙_, subst}
 use native.Mathlib.Omega.{arith}
 use borrow.Author.Tests.{ltb-true, eq-eqb, ne-eqb}
 use lib.Dec.{ltb}
-use lib.ListN.{length, getD, length-map}
+use lib.ListN.{length, length-map}
 use Rattle.forms.specs.Choice.{if_then_else_}
 use Rattle.forms.specs.Checks.{first}
 use Rattle.forms.proofs.Choice.{if-true, if-false}
@@ -21,12 +21,13 @@ use Rattle.rules.specs.declared.Setup.{Setup}
 use Rattle.rules.proofs.Demands.{demands}
 use Rattle.rules.proofs.Numbers.{told-1, settled-1, read-1}
 use Rattle.stock.proofs.Laws.{answer-number, notice-number}
-use Rattle.book.specs.Lent.{bytesOf}
-use Rattle.book.specs.Layout.{stockBytes}
+use Rattle.book.specs.Lent.{Lent}
+use Rattle.book.specs.Words.{UnusedAre0}
 use Rattle.book.specs.Setup.{setupsOf}
-use Rattle.book.specs.Demands.{ours, Made, refused-setup, told, settled, was-read, calls, Answered, Never1, UnusedAre0, AfterSetup}
-use Rattle.book.proofs.Layouts.{Fits, behind, bytes-of}
-use Rattle.book.proofs.Chains.{run-length, every-at, all-fit, started, demand2}
+use Rattle.book.specs.Demands.{Family, Made, refused-setup, told, settled, was-read, calls, Answered, Demand2, Never1, AfterSetup}
+use Rattle.book.proofs.Layouts.{layout-is}
+use Rattle.book.proofs.Chains.{run-length, all-fit, started}
+use Rattle.book.proofs.Alike.{number-0}
 use Rattle.book.proofs.Follows.{first-number}
 
 -- ------------------------------------------------------------------ a message's number
@@ -110,18 +111,15 @@ module _ (end : ℕ) (us : List Setup) (accepted : Accepted end us) where
   )
   never s f pre (was-read i a ∷ cs) k = ((λ e. read-not-one pre i s f (sym (ap (λ x. x .number) (k .0)) ∙ e)), never s f pre cs (k .1))
 
--- ------------------------------------------------------------------ unused places
+-- ------------------------------------------------------------------ of every family that meets demand 2
 
-stock-unused : (h : Whole) → Fits h → UnusedAre0 (stockBytes h)
-stock-unused h f j c l = (behind (map (λ t. t .at) (h .window)) j (simp length-map c) l, behind (map (λ t. t .price) (h .window)) j (simp length-map c) l)
-
-pub after-setup : AfterSetup ours
-after-setup end list b₀ b b′ a cs e z k =
+pub after-setup : (𝓕 : Family) → Demand2 𝓕 → AfterSetup 𝓕
+after-setup 𝓕 d end list b₀ b b′ a cs p z k =
     let us = setupsOf list in
-    let s = started end list b₀ b a e z in
-    let both = demand2 .from-setup end list b₀ b b′ a cs e z k in
-    let hs = run machine (blank end) (book end us) (calls cs) in (
+    let s = started end list b₀ (number-0 𝓕 d end list b₀ b a p z) in
+    let both = d .from-setup end list b₀ b b′ a cs p z k in
+    let hs = run machine (blank end) (book end us) (calls cs) in
+    let laid = layout-is hs (all-fit end us (calls cs)) in (
       never end us (s .accepted) (s .some) (s .few) [] cs (both .0),
-      λ i l. subst UnusedAre0 (sym (ap (bytesOf i) (both .1) ∙ bytes-of hs (all-fit end us (calls cs)) i (omega (arith, long end us (s .accepted) (calls cs))) (blank end)))
-          (stock-unused (getD hs i (blank end)) (every-at hs (blank end) (all-fit end us (calls cs)) i (omega (arith, long end us (s .accepted) (calls cs))))),
+      subst (λ (x : Lent). (i : ℕ) → i < length (x .records) → UnusedAre0 i x) (sym (both .1)) (λ i l. laid .unused i (omega (arith, l, laid .stocks))),
     )

@@ -1,4 +1,4 @@
--- What chains of calls come to: demand 2 of our calls, and demand 3 of every family that meets it.
+-- What chains of our calls come to: demand 2.
 -- Assumes nothing.
 use Prim.Native.Nat.{ℕ, zero, suc, _+_, _*_, _≤_, _<_}
 use mathlib.Core.Bool.{Bool, true, false}
@@ -6,12 +6,12 @@ use mathlib.Core.List.{List, [], _∷_, map, flatten}
 use mathlib.Core.Path.{_≡_, refl, sym, ap, _∙_, subst}
 use native.Mathlib.Nat.{mul-suc, not-suc-le-zero, le-of-suc-le-suc}
 use native.Mathlib.Omega.{arith}
-use borrow.Author.Tests.{ltb-false, eqb-true, eqb-false, eq-eqb}
+use borrow.Author.Tests.{ltb-false, eqb-true, eqb-false}
 use lib.Dec.{ltb, eqb}
-use lib.Seq.{ext-getD}
 use lib.ListN.{length, getD, set, replicate, length-map, length-set, replicate-append-replicate}
 use Rattle.forms.specs.Choice.{if_then_else_}
 use Rattle.forms.specs.Checks.{first}
+use Rattle.forms.specs.Words.{Gives}
 use Rattle.forms.proofs.Choice.{if-true, if-false, if-arms, any-head, any-tail, eq-of-not}
 use Rattle.forms.proofs.Checks.{beyond}
 use Rattle.rules.specs.Stock.{Whole}
@@ -22,14 +22,16 @@ use Rattle.rules.specs.declared.Answer.{Answer}
 use Rattle.rules.specs.declared.Message.{Message}
 use Rattle.rules.specs.declared.Notice.{Notice}
 use Rattle.rules.specs.declared.Setup.{Setup}
-use Rattle.rules.proofs.Demands.{demands}
+use Rattle.rules.proofs.Answers.{nothing-shown}
 use Rattle.rules.proofs.Passed.{settled as passed-settling}
 use Rattle.stock.proofs.Calls.{room, fired-few}
 use Rattle.window.specs.Places.{laid}
 use Rattle.book.specs.Lent.{Lent, lent, Given}
+use Rattle.book.specs.Words.{setupTable}
 use Rattle.book.specs.Layout.{empty, stockBytes, layout}
-use Rattle.book.specs.Setup.{setupsOf, recordOf, setupNumber, numberOf, setting, SetsUp}
-use Rattle.book.specs.Demands.{Family, ours, Made, refused-setup, told, settled, was-read, Chain, calls, Answered, Demand2, Demand3}
+use Rattle.book.specs.Setup.{setupsOf, recordOf, setupNumber, numberOf, SetsUp}
+use Rattle.book.specs.Demands.{ours, Made, refused-setup, told, settled, was-read, Chain, calls, Answered, Demand2}
+use Rattle.book.proofs.SettingUp.{answered, number-0, number-is, started as set-up}
 use Rattle.book.proofs.Laws.{laws}
 use Rattle.book.proofs.Layouts.{Fits}
 use Rattle.book.proofs.Follows.{tell-follows, settle-follows, read-follows}
@@ -78,7 +80,7 @@ module _ (end : ℕ) (hs : List Whole) (c : On (Call Message)) where
   unfolding stepIn
   step-fits f a = if-arms (Every Fits) (eqb (numberIn machine (blank end) hs c) 0) (λ q. every-set hs a (c .at) _ (f (eqb-true _ _ q))) (λ _. a)
 
-  step-length : length (stepIn machine (blank end) hs c) ≡ length hs
+  pub step-length : length (stepIn machine (blank end) hs c) ≡ length hs
   unfolding stepIn
   step-length = if-arms (λ (bs : List Whole). length bs ≡ length hs) (eqb (numberIn machine (blank end) hs c) 0)
       {x = set hs (c .at) (done machine (c .it) (stock machine (blank end) hs (c .at)))} {y = hs} (λ _. length-set hs (c .at) _) (λ _. refl)
@@ -126,16 +128,16 @@ follows end hs a s f (was-read i r ∷ cs) b′ k =
 -- ------------------------------------------------------------------ an accepted setup
 
 -- what it needs: a setup per stock, and the shape
-pub record Started (end : ℕ) (list : List ℕ) (b₀ b : Lent) : Type 0 where
+pub record Started (end : ℕ) (list : List ℕ) (b₀ : Lent) : Type 0 where
   pub some : 1 ≤ length (setupsOf list)
   pub few : length (setupsOf list) ≤ 64
-  pub starts : b ≡ layout (book end (setupsOf list))
+  pub times : length (b₀ .times) ≡ 512 * length (setupsOf list)
+  pub prices : length (b₀ .prices) ≡ 512 * length (setupsOf list)
   pub accepted : Accepted end (setupsOf list)
 
-pub started : (end : ℕ) (list : List ℕ) (b₀ b : Lent) (a : Answer) → SetsUp end list b₀ a b → a .number ≡ 0 → Started end list b₀ b
-unfolding setting setupNumber setupChecks badShape setsUp
-started end list b₀ b a e z =
-    let n : numberOf end list b₀ ≡ 0 = sym (ap (λ (o : Given Answer). o .answer .number) e) ∙ z in
+pub started : (end : ℕ) (list : List ℕ) (b₀ : Lent) → numberOf end list b₀ ≡ 0 → Started end list b₀
+unfolding setupNumber setupChecks badShape setsUp
+started end list b₀ n =
     let one = beyond 0 _ 1 _ tt n in
     let two = beyond 0 _ 1 _ tt (one .1) in
     let shape = any-head _ _ (two .0) in
@@ -144,28 +146,34 @@ started end list b₀ b a e z =
     let few = ltb-false 64 (length (b₀ .records)) (any-head _ _ (any-tail _ _ shape)) in
     let times : length (b₀ .times) ≡ 512 * length (b₀ .records) = eq-of-not _ _ (any-head _ _ (any-tail _ _ (any-tail _ _ shape))) in
     let prices : length (b₀ .prices) ≡ 512 * length (b₀ .records) = eq-of-not _ _ (any-head _ _ (any-tail _ _ (any-tail _ _ (any-tail _ _ shape)))) in
-    let is : b ≡ lent (map (recordOf end) (setupsOf list)) (replicate (length (b₀ .times)) 0) (replicate (length (b₀ .prices)) 0) =
-    ap (λ (o : Given Answer). o .book) e ∙ simp (n, eq-eqb 0 0 refl, if-true) in
     record {
       some = omega arith;
       few = omega arith;
-      starts = is ∙ simp (times, prices, ← us) (sym (fresh-layout end (setupsOf list)));
+      times = omega arith;
+      prices = omega arith;
       accepted = subst (λ n. first (setupChecks n (512 * n) (512 * n) end (setupsOf list)) ≡ 0) (sym us) (rw (times, prices) at (one .1));
     }
 
 -- ------------------------------------------------------------------ demand 2
 
+-- ours leaves the layout of the book that it starts
+starts : (end : ℕ) (list : List ℕ) (b₀ b : Lent) (a : Answer) → SetsUp end list b₀ a b → a .number ≡ 0 → b ≡ layout (book end (setupsOf list))
+starts end list b₀ b a e z =
+    let s = started end list b₀ (number-0 end list b₀ b a e z) in
+    set-up end list b₀ b a e z ∙ simp (s .times, s .prices) (sym (fresh-layout end (setupsOf list)))
+
 pub demand2 : Demand2 ours
 demand2 = record {
+  setup-number = λ end list b b′ a e. subst (λ (x : Answer). Gives (setupTable end list b) (x .number)) (sym (answered end list b b′ a e)) (number-is end list b);
+  setup-zeros = λ end list b b′ a e. nothing-shown _ a (answered end list b b′ a e);
   setup-refused = laws .set-up-refused;
-  setup-number = laws .set-up-by-the-rules;
   from-setup = λ end list b₀ b b′ a cs e z k.
-      let s = started end list b₀ b a e z in
+      let s = started end list b₀ (number-0 end list b₀ b a e z) in
       follows end (book end (setupsOf list)) (fresh-fits end (setupsOf list)) (simp length-map (s .some)) (simp length-map (s .few)) cs b′
-      (subst (λ x. Chain ours x cs b′) (s .starts) k);
+      (subst (λ x. Chain ours x cs b′) (starts end list b₀ b a e z) k);
 }
 
--- ------------------------------------------------------------------ demand 3, of every family that meets demand 2
+-- ------------------------------------------------------------------ the book after any calls
 
 pub run-length : (end : ℕ) (hs : List Whole) (cs : Calls machine) → length (run machine (blank end) hs cs) ≡ length hs
 run-length end hs [] = refl
@@ -185,14 +193,3 @@ run-fits end hs (c ∷ cs) a =
 
 pub all-fit : (end : ℕ) (us : List Setup) (cs : Calls machine) → Every Fits (run machine (blank end) (book end us) cs)
 all-fit end us cs = run-fits end (book end us) cs (fresh-fits end us)
-
-pub alike : (𝓕 : Family) → Demand2 𝓕 → Demand3 𝓕
-alike 𝓕 d end time list b₀ b b′ c₀ c c′ a e cs ds p p0 pk q q0 qk ps qs same =
-    let us = setupsOf list in
-    let left = run machine (blank end) (book end us) (calls cs) in
-    let right = run machine (blank end) (book end us) (calls ds) in
-    let each = demands .settled-alike end us (calls cs) (calls ds) time ps qs same in
-    let long : (xs : Calls machine) → length (run machine (blank end) (book end us) xs) ≡ length us =
-    λ xs. run-length end (book end us) xs ∙ length-map us (fresh end) in
-    let books : left ≡ right = ext-getD (blank end) left right (long (calls cs) ∙ sym (long (calls ds))) (λ i l. each i (omega (arith, long (calls cs))) .0) in
-    (d .from-setup end list b₀ b b′ a cs p p0 pk .1 ∙ ap layout books ∙ sym (d .from-setup end list c₀ c c′ e ds q q0 qk .1), λ i l. each i l .1)

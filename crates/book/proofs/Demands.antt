@@ -1,26 +1,67 @@
 -- The record of specs/Demands.antt.
 -- Assumes nothing.
-use Rattle.book.specs.Demands.{Demands}
+use Prim.Native.Nat.{ℕ}
+use mathlib.Core.Path.{refl, sym, subst}
+use Rattle.forms.specs.Words.{Gives}
+use Rattle.rules.specs.Stock.{Whole}
+use Rattle.rules.specs.Numbers.{zeros, tellAnswer, settleAnswer, readAnswer}
+use Rattle.rules.specs.Words.{refusals, settleRefusals, readRefusals}
+use Rattle.rules.specs.declared.Message.{Message}
+use Rattle.rules.specs.declared.Notice.{Notice}
+use Rattle.rules.proofs.Demands.{demands as rules}
+use Rattle.stock.specs.View.{telling, settling}
+use Rattle.book.specs.Lent.{calling, noNotice, readingIn}
+use Rattle.book.specs.Setup.{setting}
+use Rattle.book.specs.Laws.{AnsweredBy}
+use Rattle.book.specs.Demands.{ours, Demand1, Demands}
 use Rattle.book.proofs.Laws.{laws}
+use Rattle.book.proofs.Meaning.{number-by}
 use Rattle.book.proofs.OneStock.{one-stock}
-use Rattle.book.proofs.Chains.{demand2, alike}
+use Rattle.book.proofs.Chains.{demand2}
+use Rattle.book.proofs.Alike.{alike}
 use Rattle.book.proofs.After.{after-setup}
-use Rattle.book.proofs.Wrong.{refusing-fails, fixed-fails, leaving-fails, acknowledging-fails}
+use Rattle.book.proofs.Wrong.{silent-fails, refusing-fails, fixed-fails, leaving-fails, acknowledging-fails}
+
+-- the number in a stock's answer is that of its table
+told : (m : Message) (h : Whole) → Gives (refusals m h) (tellAnswer m h .number)
+told m h = subst (Gives (refusals m h)) (sym (rules .shows h .0 m .0)) (rules .numbers h _ .0 m .0 refl)
+
+settled : (time : ℕ) (h : Whole) → Gives (settleRefusals time h) (settleAnswer time h .answer .number)
+settled time h = subst (Gives (settleRefusals time h)) (sym (rules .shows h .1 time .0 .0)) (rules .numbers h _ .1 time .0 refl)
+
+was-read : (h : Whole) → Gives (readRefusals h) (readAnswer h .number)
+was-read h = subst (Gives (readRefusals h)) (sym (rules .shows h .2 .0)) (rules .numbers h _ .2 .0 refl)
+
+demand1 : Demand1 ours
+demand1 = record {
+  setup-answered = λ end list b. (setting end list b .answer, setting end list b .book, refl);
+  tell-answered = λ i m b. (calling i (telling m) zeros b .answer, calling i (telling m) zeros b .book, refl);
+  settle-answered = λ i time b. (calling i (settling time) noNotice b .answer, calling i (settling time) noNotice b .book, refl);
+  read-answered = λ i b. (readingIn i b, refl);
+  setup-number = demand2 .setup-number;
+  tell-number = λ i m b a b′ h e p.
+      number-by i b a (tellAnswer m h) zeros (λ x. x .number) (λ n. refl) _ (told m h) (laws .told-by-the-rules i m b a b′ h e p .0);
+  settle-number = λ i time b a b′ h e p.
+      number-by i b a (settleAnswer time h) noNotice (λ (x : Notice). x .answer .number) (λ n. refl) _ (settled time h) (laws .settled-by-the-rules i time b a b′ h e p .0);
+  read-number = λ i b a h e p.
+      number-by i b a (readAnswer h) zeros (λ x. x .number) (λ n. refl) _ (was-read h) (subst (λ x. AnsweredBy i b x (readAnswer h) zeros) (sym e) (laws .read-by-the-rules i b h p));
+  setup-determined = laws .setup-determined;
+  tell-determined = laws .tell-determined;
+  settle-determined = laws .settle-determined;
+  read-determined = laws .read-determined;
+  setup-leaves = laws .set-up-refused;
+  tell-leaves = laws .told-refused;
+  settle-leaves = laws .settled-refused;
+}
 
 pub demands : Demands
 demands = record {
-  demand1 = record {
-    setup-leaves = laws .set-up-refused;
-    tell-leaves = laws .told-refused;
-    settle-leaves = laws .settled-refused;
-    setup-determined = laws .setup-determined;
-    tell-determined = laws .tell-determined;
-    settle-determined = laws .settle-determined;
-  };
+  demand1 = demand1;
   demand2 = demand2;
   demand3 = alike;
   after-setup = after-setup;
   one-stock = one-stock;
+  silent-fails = silent-fails;
   refusing-fails = refusing-fails;
   fixed-fails = fixed-fails;
   leaving-fails = leaving-fails;

@@ -19,11 +19,11 @@ use Rattle.rules.specs.Machine.{Every, tell, settle, stock, numberIn, stepIn}
 use Rattle.rules.specs.Book.{machine, blank, bookTells, bookSettles, bookReads}
 use Rattle.rules.specs.Numbers.{badShape, callChecks, zeros, tells, settles, tellAnswer, settleAnswer, readAnswer}
 use Rattle.rules.specs.declared.Message.{Message}
-use Rattle.stock.specs.View.{Bytes, bytes, view, reading, lay, Outcome, telling, settling}
+use Rattle.stock.specs.View.{Bytes, reading, lay, Outcome, telling, settling}
 use Rattle.stock.proofs.Laws as stocks
 use Rattle.book.specs.Lent.{bytesOf, callNumber, calling, noNotice, readingIn}
-use Rattle.book.specs.Layout.{empty, stockBytes, layout}
-use Rattle.book.proofs.Layouts.{Fits, in-shape, lay-again, length-records, length-times, length-prices, bytes-of, with-bytes}
+use Rattle.book.specs.Layout.{stockBytes, layout}
+use Rattle.book.proofs.Layouts.{Fits, in-shape, lay-again, read-again, length-records, length-times, length-prices, bytes-of, with-bytes}
 
 -- ------------------------------------------------------------------ one stock
 
@@ -32,9 +32,6 @@ abbrev Stepped : {A : Type 0} → Whole → A → ℕ → Whole → Outcome A
 Stepped h a n h′ = record { answer = a; bytes = stockBytes (if eqb n 0 then h′ else h) }
 
 module _ (h : Whole) (f : Fits h) where
-  read : view (stockBytes h) ≡ h
-  read = stocks.laws .read-back h (bytes (record { stock = h .stock; count = 0 }) empty empty)
-
   laid : (n : ℕ) (h′ : Whole) → (n ≡ 0 → Fits h′) → (if eqb n 0 then lay h′ (stockBytes h) else stockBytes h) ≡ stockBytes (if eqb n 0 then h′ else h)
   laid n h′ k = go (eqb n 0) refl
     where
@@ -44,15 +41,14 @@ module _ (h : Whole) (f : Fits h) where
 
   pub telling-is : (m : Message) → (tells m h ≡ 0 → Fits (after m h)) → telling m (stockBytes h) ≡ Stepped h (tellAnswer m h) (tells m h) (after m h)
   unfolding telling
-  telling-is m k = simp (in-shape h f, if-true, read) (ap (λ x. record { answer = tellAnswer m h; bytes = x }) (laid (tells m h) (after m h) k))
+  telling-is m k = simp (in-shape h f, if-true, read-again h) (ap (λ x. record { answer = tellAnswer m h; bytes = x }) (laid (tells m h) (after m h) k))
 
   pub settling-is : (time : ℕ) → (settles time h ≡ 0 → Fits (fire h)) → settling time (stockBytes h) ≡ Stepped h (settleAnswer time h) (settles time h) (fire h)
   unfolding settling
-  settling-is time k = simp (in-shape h f, if-true, read) (ap (λ x. record { answer = settleAnswer time h; bytes = x }) (laid (settles time h) (fire h) k))
+  settling-is time k = simp (in-shape h f, if-true, read-again h) (ap (λ x. record { answer = settleAnswer time h; bytes = x }) (laid (settles time h) (fire h) k))
 
 reading-is : (h : Whole) → Fits h → reading (stockBytes h) ≡ readAnswer h
-unfolding reading
-reading-is h f = simp (in-shape h f, read h f, if-true)
+reading-is h f = stocks.laws .read-by-the-rules (stockBytes h) .0 (in-shape h f) ∙ ap readAnswer (read-again h)
 
 -- ------------------------------------------------------------------ a book of 1 to 64 stocks
 

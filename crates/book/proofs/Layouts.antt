@@ -3,21 +3,25 @@
 use Prim.Native.Nat.{ℕ, zero, suc, _*_, _≤_, _<_, max}
 use mathlib.Core.Bool.{Bool, true, false}
 use mathlib.Core.List.{List, [], _∷_, map, flatten}
-use mathlib.Core.Path.{_≡_, refl, sym, ap, _∙_}
+use mathlib.Core.Path.{_≡_, refl, sym, ap, _∙_, subst}
 use native.Mathlib.Nat.{max-le, le-of-suc-le-suc, not-suc-le-zero}
 use native.Mathlib.Omega.{arith}
-use borrow.Author.Tests.{ltb-true, ltb-false, eq-eqb}
+use borrow.Author.Tests.{ltb-true, ltb-false}
 use lib.Dec.{ltb}
 use lib.ListN.{length, getD, set, length-append, length-map, length-replicate, length-drop, getD-replicate, List·getD-append}
 use lib.Seq.{ext-getD}
-use Rattle.forms.proofs.Choice.{if-arms, all-yes, all-empty}
+use Rattle.forms.proofs.Choice.{if-arms}
 use Rattle.rules.specs.Stock.{Trade, Whole}
 use Rattle.rules.specs.Machine.{Every}
-use Rattle.stock.specs.View.{lay, shaped}
+use Rattle.rules.specs.Book.{blank}
+use Rattle.stock.specs.View.{Bytes, bytes, view, lay, shaped}
+use Rattle.stock.proofs.Laws as stocks
 use Rattle.window.specs.Places.{laid}
 use Rattle.window.proofs.Laws as window
 use Rattle.book.specs.Lent.{noRecord, bytesOf, withBytes}
 use Rattle.book.specs.Layout.{empty, stockBytes, layout}
+use Rattle.book.specs.Laws.{LayoutIs}
+use Rattle.book.proofs.Meaning.{part-is, one-meaning}
 use Rattle.book.proofs.Rows.{Rows, length-rows, part-row, put-row}
 
 -- ------------------------------------------------------------------ one stock's places
@@ -80,8 +84,7 @@ module _ (h : Whole) (f : Fits h) where
   prices-512 = length-front (map (λ t. t .price) (h .window)) (simp length-map f)
 
   pub in-shape : shaped (stockBytes h) ≡ true
-  unfolding shaped
-  in-shape = all-yes _ _ (eq-eqb _ _ times-512) (all-yes _ _ (eq-eqb _ _ prices-512) all-empty)
+  in-shape = stocks.laws .shaped-is (stockBytes h) .1 (times-512, prices-512)
 
   pub lay-again : (h′ : Whole) → Fits h′ → lay h′ (stockBytes h) ≡ stockBytes h′
   lay-again h′ f′ =
@@ -138,3 +141,24 @@ module _ (hs : List Whole) (all : Every Fits hs) where
         let times = put-row (map (λ h. stockBytes h .times) hs) (stockBytes h′ .times) rows-times i (simp length-map l) ∙ ap flatten (map-set (λ h. stockBytes h .times) hs i h′) in
         let prices = put-row (map (λ h. stockBytes h .prices) hs) (stockBytes h′ .prices) rows-prices i (simp length-map l) ∙ ap flatten (map-set (λ h. stockBytes h .prices) hs i h′) in
         rw (kept, times, prices)
+
+-- ------------------------------------------------------------------ entry by entry
+
+-- what stands in a stock's bytes is read of them again
+pub read-again : (h : Whole) → view (stockBytes h) ≡ h
+read-again h = stocks.laws .read-back h (bytes (record { stock = h .stock; count = 0 }) empty empty)
+
+pub layout-is : LayoutIs
+layout-is hs all = record {
+  stocks = length-records hs all;
+  times = length-times hs all;
+  prices = length-prices hs all;
+  each = λ i l. one-meaning i (layout hs) _ .1 (sym (ap view (bytes-of hs all i l (blank 0)) ∙ read-again _));
+  unused = λ i l j c k.
+      let h = getD hs i (blank 0) in
+      let is = bytes-of hs all i l (blank 0) in
+      let behind-it : length (h .window) ≤ j = subst (λ (x : Bytes). x .kept .count ≤ j) is c in (
+        sym (sym (part-is i (layout hs .times) j k) ∙ ap (λ (x : Bytes). getD (x .times) j 0) is ∙ behind (map (λ t. t .at) (h .window)) j (simp length-map behind-it) k),
+        sym (sym (part-is i (layout hs .prices) j k) ∙ ap (λ (x : Bytes). getD (x .prices) j 0) is ∙ behind (map (λ t. t .price) (h .window)) j (simp length-map behind-it) k),
+      );
+}

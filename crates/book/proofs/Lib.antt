@@ -3,12 +3,15 @@ pub mod Called
 pub mod Guarded
 pub mod Walking
 pub mod Setups
+pub mod Calls
+pub mod Meaning
 pub mod SettingUp
-pub mod Laws
 pub mod Rows
 pub mod Layouts
+pub mod Laws
 pub mod Follows
 pub mod Chains
+pub mod Alike
 pub mod Wrong
 pub mod After
 pub mod OneStock

@@ -22,6 +22,7 @@ use Rattle.rules.specs.declared.Answer.{Answer}
 use Rattle.rules.specs.declared.Setup.{Setup}
 use Rattle.stock.specs.declared.Record.{Record}
 use Rattle.book.specs.Lent.{Lent, lent, Given}
+use Rattle.book.specs.Words.{setupIn}
 use Rattle.book.specs.Setup.{setupsOf, recordOf, setupNumber, numberOf, setting, SetsUp}
 
 -- ------------------------------------------------------------------ four numbers for each setup
@@ -36,15 +37,6 @@ setups-length n (_ ∷ _ ∷ _ ∷ []) e = absurd (omega arith)
 setups-length zero (_ ∷ _ ∷ _ ∷ _ ∷ rest) e = absurd (omega arith)
 setups-length (suc n) (_ ∷ _ ∷ _ ∷ _ ∷ rest) e = rw (setups-length n rest (omega arith))
 
--- the setup of stock i
-abbrev pub setupAt : List ℕ → ℕ → Setup
-setupAt list i = record {
-  tier = getD list (4 * i) 0;
-  leverage = getD list (4 * i + 1) 0;
-  primary = getD list (4 * i + 2) 0;
-  close = getD list (4 * i + 3) 0;
-}
-
 -- the four numbers of stock i stand in the list
 pub four-more : (i n k : ℕ) → i < n → k ≡ 4 * n → 4 * i + 4 ≤ k
 four-more i n k small enough = omega arith
@@ -53,7 +45,7 @@ past : (k m a b c d : ℕ) (rest : List ℕ) → k ≡ suc (suc (suc (suc m))) �
 past k m a b c d rest e = rw e
 
 -- the setup of stock i is made of them
-pub setup-at : (i : ℕ) (list : List ℕ) → 4 * i + 4 ≤ length list → setupAt list i ≡ getD (setupsOf list) i noSetup
+pub setup-at : (i : ℕ) (list : List ℕ) → 4 * i + 4 ≤ length list → setupIn list i ≡ getD (setupsOf list) i noSetup
 unfolding setupsOf
 setup-at i [] h = absurd (omega arith)
 setup-at i (_ ∷ []) h = absurd (omega arith)

@@ -1,10 +1,10 @@
--- The four wrong books fail demand 2, each at one call on a book of one stock.
+-- The five wrong books fail, each at one call on a book of one stock: the silent one demand 1, the others demand 2.
 -- Assumes nothing.
-use Prim.Native.Nat.{ℕ, _*_}
+use Prim.Native.Nat.{ℕ}
 use mathlib.Core.List.{List, [], _∷_, flatten}
 use mathlib.Core.Path.{_≡_, refl, sym, ap, _∙_}
 use native.Mathlib.Omega.{arith}
-use lib.ListN.{length, getD, replicate}
+use lib.ListN.{getD, replicate}
 use Rattle.forms.specs.Choice.{if_then_else_, allOf, anyOf}
 use Rattle.forms.specs.Checks.{first}
 use Rattle.rules.specs.Stock.{total, oldest, figuresOf}
@@ -12,7 +12,7 @@ use Rattle.rules.specs.Quotes.{inForce, kTime, bandsIn}
 use Rattle.rules.specs.States.{look}
 use Rattle.rules.specs.Moments.{momentTable, sooner, earliest, next, dueBy, pastAt}
 use Rattle.rules.specs.Messages.{taken, quoteRules, does, after}
-use Rattle.rules.specs.Numbers.{notPrice, badEnd, badSetup, badTimes, orNotSide, badQuotes, badReference, badTrade, see, badTrades, badStock, rubbish, outOfRange, notPrimary, ownChecks, messageChecks, checks, tells, fresh, orBadSetup, badShape, setupChecks, setsUp, setupAnswer, zeros}
+use Rattle.rules.specs.Numbers.{notPrice, badEnd, badSetup, badTimes, orNotSide, badQuotes, badReference, badTrade, see, badTrades, badStock, rubbish, outOfRange, notPrimary, ownChecks, messageChecks, checks, tells, fresh, orBadSetup, badShape, setupChecks, zeros}
 use Rattle.rules.specs.Machine.{numberIn, stepIn, run}
 use Rattle.rules.specs.Book.{machine, blank, book}
 use Rattle.rules.specs.declared.Message.the-variants.{Quote}
@@ -21,8 +21,9 @@ use Rattle.rules.specs.declared.Answer.{Answer}
 use Rattle.rules.specs.declared.Notice.{Notice}
 use Rattle.book.specs.Lent.{Lent, lent, noRecord}
 use Rattle.book.specs.Layout.{layout}
-use Rattle.book.specs.Setup.{setupsOf, setupNumber, setting}
-use Rattle.book.specs.Demands.{Made, told, calls, Demand2, refusing, fixed, leaving, acknowledging}
+use Rattle.book.specs.Setup.{setupsOf, setupNumber, numberOf, setting}
+use Rattle.book.specs.Demands.{Made, told, calls, Demand1, Demand2, silent, refusing, fixed, leaving, acknowledging}
+use Rattle.book.proofs.SettingUp.{same-number}
 
 -- one stock, one of whose places is not 0
 abbrev used : Lent
@@ -37,28 +38,25 @@ abbrev end : ℕ
 end = 23_400_000
 
 -- it is set up; with a session's end of 0 it is not
-accepted : setupAnswer 1 512 512 end (setupsOf one) ≡ zeros 0
-unfolding setupAnswer setsUp setupChecks badShape badEnd badSetup orBadSetup notPrice first anyOf allOf if_then_else_ setupsOf
+accepted : numberOf end one used ≡ 0
+unfolding setupNumber setupChecks badShape badEnd badSetup orBadSetup notPrice first anyOf allOf if_then_else_ setupsOf
 accepted = refl
 
-not-accepted : setupAnswer 1 512 512 0 (setupsOf one) ≡ zeros 2
-unfolding setupAnswer setsUp setupChecks badShape badEnd badSetup orBadSetup notPrice first anyOf allOf if_then_else_ setupsOf
+not-accepted : numberOf 0 one used ≡ 2
+unfolding setupNumber setupChecks badShape badEnd badSetup orBadSetup notPrice first anyOf allOf if_then_else_ setupsOf
 not-accepted = refl
 
-apart : (m n : ℕ) → (m ≡ n → ⊥) → zeros m ≡ zeros n → ⊥
-apart m n h e = h (ap (λ (a : Answer). a .number) e)
-
-four : length one ≡ 4 * length (setupsOf one)
-unfolding setupsOf
-four = refl
+pub silent-fails : Demand1 silent → ⊥
+silent-fails d = d .setup-answered end one used .2
 
 pub refusing-fails : Demand2 refusing → ⊥
-refusing-fails d = apart 1 0 (λ e. omega (arith, e)) (d .setup-number end one used used (zeros 1) (refl, refl) four ∙ accepted)
+refusing-fails d = let n = same-number end one used 1 (d .setup-number end one used used (zeros 1) (refl, refl)) in omega (arith, n, accepted)
 
 pub fixed-fails : (x : Answer) (y : Notice) → Demand2 (fixed x y) → ⊥
 fixed-fails x y d =
-    apart 0 2 (λ e. omega (arith, e))
-    (sym accepted ∙ sym (d .setup-number end one used used x refl four) ∙ d .setup-number 0 one used used x refl four ∙ not-accepted)
+    let n = same-number end one used (x .number) (d .setup-number end one used used x refl) in
+    let m = same-number 0 one used (x .number) (d .setup-number 0 one used used x refl) in
+    omega (arith, n, m, accepted, not-accepted)
 
 -- the setup is answered 0 on the used book
 set-up : setting end one used .answer ≡ zeros 0

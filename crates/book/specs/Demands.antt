@@ -6,18 +6,23 @@
 use Prim.Native.Nat.{ℕ, _*_, _≤_, _<_}
 use mathlib.Core.List.{List, [], _∷_}
 use mathlib.Core.Path.{_≡_}
-use lib.ListN.{length, getD}
+use lib.Dec.{eqb}
+use lib.ListN.{length}
+use Rattle.forms.specs.Choice.{if_then_else_, allOf}
 use Rattle.forms.specs.Promises.{Determines}
+use Rattle.forms.specs.Words.{Gives}
 use Rattle.rules.specs.Stock.{Whole}
-use Rattle.rules.specs.Machine.{messages, notices, tell, settle, Calls, stepIn, run}
-use Rattle.rules.specs.Book.{machine, blank, book, story, Settled, bookTells, bookSettles, bookReads}
-use Rattle.rules.specs.Numbers.{zeros, fresh, afterTelling, afterSettling, tellAnswer, settleAnswer, setupAnswer}
+use Rattle.rules.specs.Machine.{tell, settle, Calls, Every, stepIn, run}
+use Rattle.rules.specs.Book.{machine, blank, book, bookTells, bookSettles, bookReads}
+use Rattle.rules.specs.Numbers.{zeros, fresh, afterTelling, afterSettling, tellAnswer, settleAnswer}
+use Rattle.rules.specs.Words.{refusals, settleRefusals, readRefusals, ShowsNothing}
 use Rattle.rules.specs.declared.Answer.{Answer}
 use Rattle.rules.specs.declared.Message.{Message}
 use Rattle.rules.specs.declared.Notice.{Notice}
 use Rattle.rules.specs.declared.Setup.{Setup}
 use Rattle.stock.specs.View.{Bytes, telling, settling, Tells, Settles}
-use Rattle.book.specs.Lent.{Lent, bytesOf, Given, calling, noNotice, TellsIn, SettlesIn, readingIn}
+use Rattle.book.specs.Lent.{Lent, Given, calling, noNotice, TellsIn, SettlesIn, readingIn}
+use Rattle.book.specs.Words.{Means, UnusedAre0, callTable, setupTable}
 use Rattle.book.specs.Layout.{stockBytes, layout}
 use Rattle.book.specs.Setup.{setupsOf, setting, SetsUp}
 
@@ -44,7 +49,7 @@ pub data Made : Type 0 where
 -- calls of a family, one after the other, from one book to another
 abbrev pub Chain : Family → Lent → List Made → Lent → Type 0
 Chain 𝓕 b [] b′ = b ≡ b′
-Chain 𝓕 b (refused-setup end list a ∷ cs) b′ = (c : Lent) × 𝓕 .SetUp end list b a c × (a .number ≡ 0 → ⊥) × Chain 𝓕 c cs b′
+Chain 𝓕 b (refused-setup end list a ∷ cs) b′ = (c : Lent) × 𝓕 .SetUp end list b a c × ¬ (a .number ≡ 0) × Chain 𝓕 c cs b′
 Chain 𝓕 b (told i m a ∷ cs) b′ = (c : Lent) × 𝓕 .Tell i m b a c × Chain 𝓕 c cs b′
 Chain 𝓕 b (settled i time a ∷ cs) b′ = (c : Lent) × 𝓕 .Settle i time b a c × Chain 𝓕 c cs b′
 Chain 𝓕 b (was-read i a ∷ cs) b′ = 𝓕 .Read i b a × Chain 𝓕 b cs b′
@@ -59,14 +64,33 @@ calls (was-read i a ∷ cs) = calls cs
 
 -- ------------------------------------------------------------------ demand 1
 
--- On any bytes two outcomes of one call agree, in the answer and in every byte, and every number but 0 leaves every byte.
+-- The number of a setup, of any bytes and a list of any length.
+abbrev pub SetupNumber : Family → Type 0
+SetupNumber 𝓕 = (end : ℕ) (list : List ℕ) (b b′ : Lent) (a : Answer) → 𝓕 .SetUp end list b a b′ → Gives (setupTable end list b) (a .number)
+
+-- For any bytes:
 pub record Demand1 (𝓕 : Family) : Type 0 where
-  pub setup-leaves : (end : ℕ) (list : List ℕ) (b b′ : Lent) (a : Answer) → 𝓕 .SetUp end list b a b′ → (a .number ≡ 0 → ⊥) → b′ ≡ b
-  pub tell-leaves : (i : ℕ) (m : Message) (b : Lent) (a : Answer) (b′ : Lent) → 𝓕 .Tell i m b a b′ → (a .number ≡ 0 → ⊥) → b′ ≡ b
-  pub settle-leaves : (i time : ℕ) (b : Lent) (a : Notice) (b′ : Lent) → 𝓕 .Settle i time b a b′ → (a .answer .number ≡ 0 → ⊥) → b′ ≡ b
+  -- every call is answered,
+  pub setup-answered : (end : ℕ) (list : List ℕ) (b : Lent) → (a : Answer) × (b′ : Lent) × 𝓕 .SetUp end list b a b′
+  pub tell-answered : (i : ℕ) (m : Message) (b : Lent) → (a : Answer) × (b′ : Lent) × 𝓕 .Tell i m b a b′
+  pub settle-answered : (i time : ℕ) (b : Lent) → (a : Notice) × (b′ : Lent) × 𝓕 .Settle i time b a b′
+  pub read-answered : (i : ℕ) (b : Lent) → (a : Answer) × 𝓕 .Read i b a
+  -- by the number that document 01's table gives for the stock that the bytes mean; they mean exactly one (`one-meaning` of Laws.antt);
+  pub setup-number : SetupNumber 𝓕
+  pub tell-number : (i : ℕ) (m : Message) (b : Lent) (a : Answer) (b′ : Lent) (h : Whole) → 𝓕 .Tell i m b a b′ → Means i b h
+      → Gives (callTable i b (refusals m h)) (a .number)
+  pub settle-number : (i time : ℕ) (b : Lent) (a : Notice) (b′ : Lent) (h : Whole) → 𝓕 .Settle i time b a b′ → Means i b h
+      → Gives (callTable i b (settleRefusals time h)) (a .answer .number)
+  pub read-number : (i : ℕ) (b : Lent) (a : Answer) (h : Whole) → 𝓕 .Read i b a → Means i b h → Gives (callTable i b (readRefusals h)) (a .number)
+  -- two outcomes of one call agree, in the answer and in every byte;
   pub setup-determined : (end : ℕ) (list : List ℕ) (b : Lent) → Determines (λ (x : Given Answer). 𝓕 .SetUp end list b (x .answer) (x .book))
   pub tell-determined : (i : ℕ) (m : Message) (b : Lent) → Determines (λ (x : Given Answer). 𝓕 .Tell i m b (x .answer) (x .book))
   pub settle-determined : (i time : ℕ) (b : Lent) → Determines (λ (x : Given Notice). 𝓕 .Settle i time b (x .answer) (x .book))
+  pub read-determined : (i : ℕ) (b : Lent) → Determines (λ (a : Answer). 𝓕 .Read i b a)
+  -- every number but 0 leaves every byte, and reading leaves them always
+  pub setup-leaves : (end : ℕ) (list : List ℕ) (b b′ : Lent) (a : Answer) → 𝓕 .SetUp end list b a b′ → ¬ (a .number ≡ 0) → b′ ≡ b
+  pub tell-leaves : (i : ℕ) (m : Message) (b : Lent) (a : Answer) (b′ : Lent) → 𝓕 .Tell i m b a b′ → ¬ (a .number ≡ 0) → b′ ≡ b
+  pub settle-leaves : (i time : ℕ) (b : Lent) (a : Notice) (b′ : Lent) → 𝓕 .Settle i time b a b′ → ¬ (a .answer .number ≡ 0) → b′ ≡ b
 
 -- ------------------------------------------------------------------ demand 2
 
@@ -81,17 +105,38 @@ Answered end hs (settled i time a ∷ cs) =
     × Answered end (stepIn machine (blank end) hs (record { at = i; it = settle time })) cs
 Answered end hs (was-read i a ∷ cs) = (a ≡ bookReads end hs (512 * length hs) (512 * length hs) i) × Answered end hs cs
 
--- A setup is answered as the rules answer it; accepted, it leaves the layout of the book that it starts, and refused, every byte. After an
--- accepted one, whatever calls follow are answered as the rules answer them, and the bytes are the layout of what they leave.
+-- A setup is answered by the number of its table, with zeros; refused, it leaves every byte. After an accepted one, whatever calls follow are
+-- answered as the rules answer them, and the bytes are the layout of what they leave.
 pub record Demand2 (𝓕 : Family) : Type 0 where
-  pub setup-refused : (end : ℕ) (list : List ℕ) (b b′ : Lent) (a : Answer) → 𝓕 .SetUp end list b a b′ → (a .number ≡ 0 → ⊥) → b′ ≡ b
-  pub setup-number : (end : ℕ) (list : List ℕ) (b b′ : Lent) (a : Answer) → 𝓕 .SetUp end list b a b′ → length list ≡ 4 * length (setupsOf list)
-      → a ≡ setupAnswer (length (b .records)) (length (b .times)) (length (b .prices)) end (setupsOf list)
+  pub setup-number : SetupNumber 𝓕
+  pub setup-zeros : (end : ℕ) (list : List ℕ) (b b′ : Lent) (a : Answer) → 𝓕 .SetUp end list b a b′ → ShowsNothing a
+  pub setup-refused : (end : ℕ) (list : List ℕ) (b b′ : Lent) (a : Answer) → 𝓕 .SetUp end list b a b′ → ¬ (a .number ≡ 0) → b′ ≡ b
   pub from-setup : (end : ℕ) (list : List ℕ) (b₀ b b′ : Lent) (a : Answer) (cs : List Made) → 𝓕 .SetUp end list b₀ a b → a .number ≡ 0
       → Chain 𝓕 b cs b′
       → Answered end (book end (setupsOf list)) cs × (b′ ≡ layout (run machine (blank end) (book end (setupsOf list)) (calls cs)))
 
 -- ------------------------------------------------------------------ demand 3
+
+-- the messages that stock i was told, of those that were answered 0
+abbrev pub accepted : ℕ → List Made → List Message
+accepted i [] = []
+accepted i (refused-setup end list a ∷ cs) = accepted i cs
+accepted i (told j m a ∷ cs) = if allOf (eqb i j ∷ eqb (a .number) 0 ∷ []) then m ∷ accepted i cs else accepted i cs
+accepted i (settled j time a ∷ cs) = accepted i cs
+accepted i (was-read j a ∷ cs) = accepted i cs
+
+-- the notices that settling stock i was answered with, of those with number 0
+abbrev pub noticed : ℕ → List Made → List Notice
+noticed i [] = []
+noticed i (refused-setup end list a ∷ cs) = noticed i cs
+noticed i (told j m a ∷ cs) = noticed i cs
+noticed i (settled j time a ∷ cs) = if allOf (eqb i j ∷ eqb (a .answer .number) 0 ∷ []) then a ∷ noticed i cs else noticed i cs
+noticed i (was-read j a ∷ cs) = noticed i cs
+
+-- calls that left the book b have settled it to a time: settling a stock to it is answered 14, and no notice was dated later
+pub record SettledTo (𝓕 : Family) (time : ℕ) (cs : List Made) (b : Lent) : Type 0 where
+  pub nothing-left : (i : ℕ) → i < length (b .records) → (a : Notice) × (b′ : Lent) × 𝓕 .Settle i time b a b′ × (a .answer .number ≡ 14)
+  pub nothing-later : (i : ℕ) → Every (λ n. n .moment .time ≤ time) (noticed i cs)
 
 -- Two books set up alike, whose stocks have accepted the same messages, both settled to one time and not beyond: every byte is equal, and
 -- so are the dated notices of each stock.
@@ -99,11 +144,15 @@ abbrev pub Demand3 : Family → Type 0
 Demand3 𝓕 = (end time : ℕ) (list : List ℕ) (b₀ b b′ c₀ c c′ : Lent) (a e : Answer) (cs ds : List Made)
     → 𝓕 .SetUp end list b₀ a b → a .number ≡ 0 → Chain 𝓕 b cs b′
     → 𝓕 .SetUp end list c₀ e c → e .number ≡ 0 → Chain 𝓕 c ds c′
-    → let us = setupsOf list in Settled end time us (calls cs) → Settled end time us (calls ds)
-    → ((i : ℕ) → messages (story end us (calls cs) i) ≡ messages (story end us (calls ds) i))
-    → (b′ ≡ c′) × ((i : ℕ) → i < length us → notices (story end us (calls cs) i) ≡ notices (story end us (calls ds) i))
+    → SettledTo 𝓕 time cs b′ → SettledTo 𝓕 time ds c′
+    → ((i : ℕ) → accepted i cs ≡ accepted i ds)
+    → (b′ ≡ c′) × ((i : ℕ) → i < length (b′ .records) → noticed i cs ≡ noticed i ds)
 
--- ------------------------------------------------------------------ four books that must not pass
+-- ------------------------------------------------------------------ five books that must not pass
+
+-- no call is answered
+abbrev pub silent : Family
+silent = record { SetUp = λ end list b a b′. ⊥; Tell = λ i m b a b′. ⊥; Settle = λ i time b a b′. ⊥; Read = λ i b a. ⊥ }
 
 -- every call is refused
 abbrev pub refusing : Family
@@ -147,19 +196,15 @@ acknowledging = record {
 abbrev pub Never1 : List Made → Type 0
 Never1 [] = Unit {0}
 Never1 (refused-setup end list a ∷ cs) = Never1 cs
-Never1 (told i m a ∷ cs) = (a .number ≡ 1 → ⊥) × Never1 cs
-Never1 (settled i time a ∷ cs) = (a .answer .number ≡ 1 → ⊥) × Never1 cs
-Never1 (was-read i a ∷ cs) = (a .number ≡ 1 → ⊥) × Never1 cs
+Never1 (told i m a ∷ cs) = ¬ (a .number ≡ 1) × Never1 cs
+Never1 (settled i time a ∷ cs) = ¬ (a .answer .number ≡ 1) × Never1 cs
+Never1 (was-read i a ∷ cs) = ¬ (a .number ≡ 1) × Never1 cs
 
--- A place behind the held trades of a stock is 0.
-abbrev pub UnusedAre0 : Bytes → Type 0
-UnusedAre0 x = (j : ℕ) → x .kept .count ≤ j → j < 512 → (getD (x .times) j 0 ≡ 0) × (getD (x .prices) j 0 ≡ 0)
-
--- So of every family that meets demand 2.
+-- So of every family that meets demand 2, and every unused place is 0.
 abbrev pub AfterSetup : Family → Type 0
 AfterSetup 𝓕 = (end : ℕ) (list : List ℕ) (b₀ b b′ : Lent) (a : Answer) (cs : List Made) → 𝓕 .SetUp end list b₀ a b → a .number ≡ 0
     → Chain 𝓕 b cs b′
-    → Never1 cs × ((i : ℕ) → i < length (setupsOf list) → UnusedAre0 (bytesOf i b′))
+    → Never1 cs × ((i : ℕ) → i < length (b′ .records) → UnusedAre0 i b′)
 
 -- ------------------------------------------------------------------ one lent record
 
@@ -196,9 +241,10 @@ pub record Demands : Type 1 where
   pub demand1 : Demand1 ours
   pub demand2 : Demand2 ours
   pub demand3 : (𝓕 : Family) → Demand2 𝓕 → Demand3 𝓕
-  pub after-setup : AfterSetup ours
+  pub after-setup : (𝓕 : Family) → Demand2 𝓕 → AfterSetup 𝓕
   pub one-stock : OneStock
   -- what must not pass does not
+  pub silent-fails : Demand1 silent → ⊥
   pub refusing-fails : Demand2 refusing → ⊥
   pub fixed-fails : (x : Answer) (y : Notice) → Demand2 (fixed x y) → ⊥
   pub leaving-fails : Demand2 leaving → ⊥

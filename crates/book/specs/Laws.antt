@@ -3,19 +3,28 @@
 use Prim.Native.Nat.{ℕ, _+_, _*_, _≤_, _<_}
 use mathlib.Core.Bool.{true}
 use mathlib.Core.List.{List}
+use mathlib.Core.Logic.{_↔_}
 use mathlib.Core.Path.{_≡_}
 use lib.ListN.{length, getD}
 use Rattle.forms.specs.Promises.{Determines}
-use Rattle.rules.specs.Book.{blank, book}
-use Rattle.rules.specs.Numbers.{zeros, setupAnswer}
+use Rattle.rules.specs.Stock.{Whole}
+use Rattle.rules.specs.Machine.{Every}
+use Rattle.rules.specs.Book.{noSetup}
+use Rattle.rules.specs.Numbers.{zeros, fresh, afterTelling, afterSettling, tellAnswer, settleAnswer, readAnswer, setupAnswer}
 use Rattle.rules.specs.declared.Answer.{Answer}
 use Rattle.rules.specs.declared.Message.{Message}
 use Rattle.rules.specs.declared.Notice.{Notice}
 use Rattle.stock.specs.View.{Bytes, view, shaped, Outcome, telling, settling}
+use Rattle.book.specs.Lent.{Lent, part, put, bytesOf, withBytes, Given, callNumber, calling, noNotice, TellsIn, SettlesIn, readingIn}
+use Rattle.book.specs.Words.{Means, UnusedAre0, LaidOut, setupIn, InShape}
 use Rattle.book.specs.Setup.{setupsOf, SetsUp}
-use Rattle.book.specs.Lent.{Lent, part, put, bytesOf, withBytes, Given, callNumber, calling, TellsIn, SettlesIn, readingIn}
+use Rattle.book.specs.Layout.{layout}
 
 -- ------------------------------------------------------------------ the parts of an array
+
+-- place j of stock i is entry 512 i + j
+abbrev pub PartIs : Type 0
+PartIs = (i : ℕ) (xs : List ℕ) (j : ℕ) → j < 512 → getD (part i xs) j 0 ≡ getD xs (512 * i + j) 0
 
 -- a part of 512 places that is put where there is room for it
 pub record Fits (i : ℕ) (new xs : List ℕ) : Type 0 where
@@ -27,7 +36,7 @@ abbrev pub PartPut : Type 0
 PartPut = (i : ℕ) (new xs : List ℕ) → Fits i new xs → part i (put i new xs) ≡ new
 
 abbrev pub PartPutOther : Type 0
-PartPutOther = (i : ℕ) (new xs : List ℕ) → Fits i new xs → (j : ℕ) → (j ≡ i → ⊥) → part j (put i new xs) ≡ part j xs
+PartPutOther = (i : ℕ) (new xs : List ℕ) → Fits i new xs → (j : ℕ) → ¬ (j ≡ i) → part j (put i new xs) ≡ part j xs
 
 -- ------------------------------------------------------------------ the bytes of a stock
 
@@ -46,9 +55,35 @@ abbrev pub BytesWritten : Type 0
 BytesWritten = (i : ℕ) (x : Bytes) (b : Lent) → shaped x ≡ true → Has i b → bytesOf i (withBytes i x b) ≡ x
 
 abbrev pub BytesOfOthers : Type 0
-BytesOfOthers = (i : ℕ) (x : Bytes) (b : Lent) → shaped x ≡ true → Has i b → (j : ℕ) → (j ≡ i → ⊥) → bytesOf j (withBytes i x b) ≡ bytesOf j b
+BytesOfOthers = (i : ℕ) (x : Bytes) (b : Lent) → shaped x ≡ true → Has i b → (j : ℕ) → ¬ (j ≡ i) → bytesOf j (withBytes i x b) ≡ bytesOf j b
 
--- ------------------------------------------------------------------ calls
+-- the bytes of a stock mean one stock, that which is read of them
+abbrev pub OneMeaning : Type 0
+OneMeaning = (i : ℕ) (b : Lent) (h : Whole) → Means i b h ↔ (h ≡ view (bytesOf i b))
+
+-- the layout of a book whose windows fit, entry by entry
+abbrev pub LayoutIs : Type 0
+LayoutIs = (hs : List Whole) → Every (λ h. length (h .window) ≤ 512) hs → LaidOut hs (layout hs)
+
+-- ------------------------------------------------------------------ calls on any bytes
+
+-- of a stock that there is, the answer `own`; 1 for the shape and 3 for a stock that there is not, with zeros beside it
+pub record AnsweredBy {A : Type 0} (i : ℕ) (b : Lent) (r own : A) (beside : ℕ → A) : Type 0 where
+  pub there : InShape b → i < length (b .records) → r ≡ own
+  pub no-shape : ¬ InShape b → r ≡ beside 1
+  pub no-stock : InShape b → length (b .records) ≤ i → r ≡ beside 3
+
+-- the answer is the rules' of what the bytes mean, and then they mean what the rules leave
+abbrev pub ToldByTheRules : Type 0
+ToldByTheRules = (i : ℕ) (m : Message) (b : Lent) (r : Answer) (b′ : Lent) (h : Whole) → TellsIn i m b r b′ → Means i b h
+    → AnsweredBy i b r (tellAnswer m h) zeros × (InShape b → i < length (b .records) → Means i b′ (afterTelling m h))
+
+abbrev pub SettledByTheRules : Type 0
+SettledByTheRules = (i time : ℕ) (b : Lent) (r : Notice) (b′ : Lent) (h : Whole) → SettlesIn i time b r b′ → Means i b h
+    → AnsweredBy i b r (settleAnswer time h) noNotice × (InShape b → i < length (b .records) → Means i b′ (afterSettling time h))
+
+abbrev pub ReadByTheRules : Type 0
+ReadByTheRules = (i : ℕ) (b : Lent) (h : Whole) → Means i b h → AnsweredBy i b (readingIn i b) (readAnswer h) zeros
 
 -- a step that leaves its stock's bytes leaves the book
 abbrev pub CallLeaves : Type 1
@@ -57,15 +92,15 @@ CallLeaves = (A : Type 0) (i : ℕ) (step : Bytes → Outcome A) (beside : ℕ �
 
 -- every number but 0 leaves every byte as it stood
 abbrev pub ToldRefused : Type 0
-ToldRefused = (i : ℕ) (m : Message) (b : Lent) (r : Answer) (b′ : Lent) → TellsIn i m b r b′ → (r .number ≡ 0 → ⊥) → b′ ≡ b
+ToldRefused = (i : ℕ) (m : Message) (b : Lent) (r : Answer) (b′ : Lent) → TellsIn i m b r b′ → ¬ (r .number ≡ 0) → b′ ≡ b
 
 abbrev pub SettledRefused : Type 0
-SettledRefused = (i time : ℕ) (b : Lent) (r : Notice) (b′ : Lent) → SettlesIn i time b r b′ → (r .answer .number ≡ 0 → ⊥) → b′ ≡ b
+SettledRefused = (i time : ℕ) (b : Lent) (r : Notice) (b′ : Lent) → SettlesIn i time b r b′ → ¬ (r .answer .number ≡ 0) → b′ ≡ b
 
 -- what a call on stock i leaves: its own bytes as its step leaves them, every other stock's as they were, and as many records and places
 pub record Touched (i : ℕ) (next : Bytes) (b b′ : Lent) : Type 0 where
   pub own : callNumber i b ≡ 0 → bytesOf i b′ ≡ next
-  pub others : (j : ℕ) → (j ≡ i → ⊥) → bytesOf j b′ ≡ bytesOf j b
+  pub others : (j : ℕ) → ¬ (j ≡ i) → bytesOf j b′ ≡ bytesOf j b
   pub numbers : (j : ℕ) → callNumber j b′ ≡ callNumber j b
 
 abbrev pub ToldTouches : Type 0
@@ -78,6 +113,11 @@ SettledTouches = (i time : ℕ) (b : Lent) (r : Notice) (b′ : Lent) → Settle
 
 -- ------------------------------------------------------------------ setup
 
+-- the list has a setup for each four of its numbers, in their order
+abbrev pub SetupsAre : Type 0
+SetupsAre = (list : List ℕ) (stocks : ℕ) → length list ≡ 4 * stocks
+    → (length (setupsOf list) ≡ stocks) × ((i : ℕ) → i < stocks → getD (setupsOf list) i noSetup ≡ setupIn list i)
+
 -- of a list that has four numbers for each setup: the rules' answer
 abbrev pub SetUpByTheRules : Type 0
 SetUpByTheRules = (end : ℕ) (list : List ℕ) (b b′ : Lent) (r : Answer) → SetsUp end list b r b′ → length list ≡ 4 * length (setupsOf list)
@@ -85,21 +125,22 @@ SetUpByTheRules = (end : ℕ) (list : List ℕ) (b b′ : Lent) (r : Answer) →
 
 -- of another list: 1 with zeros beside it
 abbrev pub SetUpOne : Type 0
-SetUpOne = (end : ℕ) (list : List ℕ) (b b′ : Lent) (r : Answer) → SetsUp end list b r b′ → (length list ≡ 4 * length (setupsOf list) → ⊥) → r ≡ zeros 1
+SetUpOne = (end : ℕ) (list : List ℕ) (b b′ : Lent) (r : Answer) → SetsUp end list b r b′ → ¬ (length list ≡ 4 * length (setupsOf list)) → r ≡ zeros 1
 
--- where it is done, the bytes mean the book that the setup starts
+-- where it is done, there are as many stocks as before, each as its own four numbers start it, and every place is 0
 abbrev pub SetUpStarts : Type 0
 SetUpStarts = (end : ℕ) (list : List ℕ) (b b′ : Lent) (r : Answer) → SetsUp end list b r b′ → r .number ≡ 0
     → (length (b′ .records) ≡ length (b .records))
-    × ((i : ℕ) → i < length (b .records) → view (bytesOf i b′) ≡ getD (book end (setupsOf list)) i (blank end))
+    × ((i : ℕ) → i < length (b .records) → Means i b′ (fresh end (setupIn list i)) × UnusedAre0 i b′)
 
 -- every number but 0 leaves every byte as it stood
 abbrev pub SetUpRefused : Type 0
-SetUpRefused = (end : ℕ) (list : List ℕ) (b b′ : Lent) (r : Answer) → SetsUp end list b r b′ → (r .number ≡ 0 → ⊥) → b′ ≡ b
+SetUpRefused = (end : ℕ) (list : List ℕ) (b b′ : Lent) (r : Answer) → SetsUp end list b r b′ → ¬ (r .number ≡ 0) → b′ ≡ b
 
 -- ------------------------------------------------------------------ all of them
 
 pub record Laws : Type 1 where
+  pub part-is : PartIs
   pub part-put : PartPut
   pub part-put-other : PartPutOther
   pub put-part : (i : ℕ) (xs : List ℕ) → put i (part i xs) xs ≡ xs
@@ -107,11 +148,17 @@ pub record Laws : Type 1 where
   pub let-through : LetThrough
   pub bytes-written : BytesWritten
   pub bytes-of-others : BytesOfOthers
+  pub one-meaning : OneMeaning
+  pub layout-is : LayoutIs
+  pub told-by-the-rules : ToldByTheRules
+  pub settled-by-the-rules : SettledByTheRules
+  pub read-by-the-rules : ReadByTheRules
   pub call-leaves : CallLeaves
   pub told-refused : ToldRefused
   pub settled-refused : SettledRefused
   pub told-touches : ToldTouches
   pub settled-touches : SettledTouches
+  pub setups-are : SetupsAre
   pub set-up-by-the-rules : SetUpByTheRules
   pub set-up-one : SetUpOne
   pub set-up-starts : SetUpStarts

@@ -1,4 +1,5 @@
 pub mod Lent
+pub mod Words
 pub mod Setup
 pub mod Layout
 pub mod Laws

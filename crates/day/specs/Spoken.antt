@@ -5,7 +5,11 @@ use mathlib.Core.List.{List}
 use lib.Dec.{eqb}
 use lib.ListN.{getD}
 use Rattle.forms.specs.Choice.{if_then_else_}
+use Rattle.rules.specs.declared.Message.{Message}
 use Rattle.rules.specs.declared.Message.the-variants.{Trade, Quote, Opening, Pause, Reopening, Closing}
+use Rattle.tape.specs.declared.Line.{Line}
+use Rattle.day.specs.declared.Day.{Day}
+use Rattle.day.specs.declared.flow.Flow.{Flow}
 use Rattle.day.specs.declared.Spoken.{Spoken}
 use Rattle.day.specs.declared.Spoken.the-variants.{Said, Nothing}
 
@@ -22,3 +26,8 @@ spokenOf numbers letter =
     if eqb letter 80 then Said (Pause time third) else
     if eqb letter 82 then Said (Reopening time third fourth) else
     if eqb letter 88 then Said (Closing time third fourth) else Nothing
+
+-- the day at a line that says a message: "letter, stock, time"; it goes on while the output takes what is written
+abbrev pub dayAt : Line → Message → ℕ → ℕ → Flow → Day
+dayAt line message last left flow =
+    record { letter = line .letter; stock = getD (line .numbers) 0 0; time = getD (line .numbers) 1 0; message = message; going = flow .live; last = last; left = left; flow = flow }

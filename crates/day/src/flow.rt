@@ -3,7 +3,9 @@
 ghost use Prim.Native.Nat.{_+_, _≤_};
 ghost use mathlib.Core.Path.{_≡_};
 ghost use lib.ListN.{length};
-ghost use Rattle.day.specs.Flow.{Within, Same};
+ghost use Rattle.tape.specs.Lines.{unread};
+ghost use Rattle.day.specs.Flow.{Within, Same, reachOf, Sees, foundOf, missingOf};
+ghost use Rattle.day.specs.Printed.{printedOf, placeOf, putOf};
 use rules::Answer;
 use tape::Line;
 
@@ -35,7 +37,9 @@ pub struct Taken {
 }
 
 // What cannot be read.
-pub(crate) fn unread() -> Line {
+pub(crate) fn unread() -> Line
+    ensures { λ r. ⌜ r ≡ unread ⌝ }
+{
     Line {
         letter: 0,
         numbers: [0; 5],
@@ -46,6 +50,7 @@ pub(crate) fn unread() -> Line {
 fn reach(from: usize, to: usize) -> usize
     requires { ⌜ from ≤ to ⌝ }
     ensures { λ r. ⌜ (from ≤ r) × (r ≤ to) ⌝ }
+    ensures { λ r. ⌜ r ≡ reachOf from to ⌝ }
 {
     if LONGEST < to - from {
         return from + LONGEST;
@@ -57,6 +62,7 @@ fn reach(from: usize, to: usize) -> usize
 fn look(input: &[u8], from: usize, to: usize) -> Seen
     requires { ⌜ (from ≤ to) × (to ≤ length (now input)) ⌝ }
     ensures { λ r. ⌜ (from ≤ r .next) × (r .next ≤ to) ⌝ }
+    ensures { λ r. ⌜ Sees (now (input .entry)) from to r ⌝ }
 {
     let most = reach(from, to);
     let end = from + tape::to_feed(&input[from..most]);
@@ -135,6 +141,7 @@ fn more(input: &mut [u8], output: &[u8], f: Flow) -> Flow
 // No line that can be read.
 fn missing(f: Flow) -> Taken
     ensures { λ r. ⌜ Same (r .flow) f ⌝ }
+    ensures { λ r. ⌜ r ≡ missingOf f ⌝ }
 {
     let line = unread();
     Taken { line, flow: f }
@@ -143,6 +150,7 @@ fn missing(f: Flow) -> Taken
 // A line that ends before `next`.
 fn found(line: Line, next: usize, f: Flow) -> Taken
     ensures { λ r. ⌜ (r .flow .from ≡ next) × (r .flow .to ≡ f .to) × (r .flow .at ≡ f .at) ⌝ }
+    ensures { λ r. ⌜ r ≡ foundOf line next f ⌝ }
 {
     let flow = Flow {
         from: next,
@@ -177,11 +185,32 @@ pub(crate) fn next_line(input: &mut [u8], output: &[u8], flow: Flow) -> Taken
 fn with_room(output: &[u8], f: Flow) -> Flow
     requires { ⌜ f .at ≤ length (now output) ⌝ }
     ensures { λ r. ⌜ (r .at ≤ length (now (output .entry))) × (r .from ≡ f .from) × (r .to ≡ f .to) ⌝ }
+    ensures { λ r. ⌜ r .at ≡ placeOf (length (now (output .entry))) (f .at) ⌝ }
 {
     if output.len() - f.at < tape::LONGEST_PRINTED {
         return flush(output, f);
     }
     f
+}
+
+// The numbers of an answer, in the order in which they are printed.
+fn numbers_of(a: Answer) -> [u64; 9]
+    ensures { λ r. ⌜ r ≡ printedOf a ⌝ }
+{
+    let bands = a.bands;
+    let bid = a.best.bid;
+    let offer = a.best.offer;
+    [
+        a.number as u64,
+        a.state as u64,
+        a.reference as u64,
+        bands.lower,
+        bands.upper,
+        bid.price as u64,
+        bid.flag as u64,
+        offer.price as u64,
+        offer.flag as u64,
+    ]
 }
 
 // Puts a line into the output's block.
@@ -195,21 +224,9 @@ pub(crate) fn put(
 ) -> Flow
     requires { ⌜ flow .at ≤ length (now output) ⌝ }
     ensures { λ r. ⌜ (r .at ≤ length (now (output .entry))) × (r .from ≡ flow .from) × (r .to ≡ flow .to) ⌝ }
+    ensures { λ r. ⌜ record { to = r .at; bytes = now (output .exit) } ≡ putOf (now (output .entry)) (flow .at) stock time letter a ⌝ }
 {
-    let bands = a.bands;
-    let bid = a.best.bid;
-    let offer = a.best.offer;
-    let numbers = [
-        a.number as u64,
-        a.state as u64,
-        a.reference as u64,
-        bands.lower,
-        bands.upper,
-        bid.price as u64,
-        bid.flag as u64,
-        offer.price as u64,
-        offer.flag as u64,
-    ];
+    let numbers = numbers_of(a);
     let f = with_room(output, flow);
     let at = tape::print(output, f.at, stock as u64, time, letter, &numbers);
     Flow {

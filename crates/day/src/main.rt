@@ -5,8 +5,10 @@ mod flow;
 ghost use mathlib.Core.Path.{_≡_};
 ghost use Prim.Native.Nat.{_≤_, _<_};
 ghost use lib.ListN.{length};
-ghost use Rattle.day.specs.Flow.{Within, Same, Underway};
-ghost use Rattle.day.specs.Spoken.{spokenOf};
+ghost use Rattle.day.specs.Flow.{Within, Same, Underway, withFlow};
+ghost use Rattle.day.specs.Spoken.{spokenOf, dayAt};
+ghost use Rattle.day.specs.Contents.{contentsOf, setupIn, isSetup, entered};
+ghost use Rattle.day.specs.Printed.{markOf};
 use flow::Flow;
 use rules::Message;
 use rules::Moment;
@@ -56,6 +58,7 @@ struct Contents {
 // `C stocks messages E`
 fn contents_of(line: Line) -> Contents
     ensures { λ r. ⌜ r .stocks ≤ 8 ⌝ }
+    ensures { λ r. ⌜ r ≡ contentsOf line ⌝ }
 {
     let numbers = line.numbers;
     let stocks = numbers[0];
@@ -77,7 +80,9 @@ fn contents_of(line: Line) -> Contents
 }
 
 // Whether a line is `S tier leverage primary close`, of a setup in range.
-fn is_setup(line: Line) -> bool {
+fn is_setup(line: Line) -> bool
+    ensures { λ r. ⌜ r ≡ isSetup line ⌝ }
+{
     let numbers = line.numbers;
     let setup = Setup {
         tier: numbers[0],
@@ -91,6 +96,7 @@ fn is_setup(line: Line) -> bool {
 // Enters the setup of stock i into the list.
 fn enter(list: &mut [u32], i: u32, line: Line)
     requires { ⌜ (i < 8) × (length (now list) ≡ 32) ⌝ }
+    ensures { λ _. ⌜ now (list .exit) ≡ entered (now (list .entry)) i (setupIn (line .numbers)) ⌝ }
 {
     let numbers = line.numbers;
     let at = 4 * i as usize;
@@ -101,7 +107,9 @@ fn enter(list: &mut [u32], i: u32, line: Line)
 }
 
 // The letter of a mark.
-fn mark_of(moment: Moment) -> u8 {
+fn mark_of(moment: Moment) -> u8
+    ensures { λ r. ⌜ r ≡ markOf moment ⌝ }
+{
     (moment.mark % 256) as u8
 }
 
@@ -178,6 +186,24 @@ fn ended(last: u64, flow: Flow) -> Day
     }
 }
 
+// The day at a line that says a message.
+fn at_message(line: Line, message: Message, last: u64, left: u32, flow: Flow) -> Day
+    ensures { λ r. ⌜ (r .last ≡ last) × (r .left ≡ left) × Same (r .flow) flow ⌝ }
+    ensures { λ r. ⌜ r ≡ dayAt line message last left flow ⌝ }
+{
+    let numbers = line.numbers;
+    Day {
+        letter: line.letter,
+        stock: numbers[0],
+        time: numbers[1],
+        message,
+        going: flow.live,
+        last,
+        left,
+        flow,
+    }
+}
+
 // Reads the next of the messages that are left, or ends the day: behind the last message, at a line that cannot be
 // read, and where the output is closed.
 fn next_message(input: &mut [u8], output: &[u8], last: u64, left: u32, flow: Flow) -> Day
@@ -193,17 +219,7 @@ fn next_message(input: &mut [u8], output: &[u8], last: u64, left: u32, flow: Flo
     let behind = taken.flow;
     let said = heard(line);
     if let Spoken::Said { message } = said {
-        let numbers = line.numbers;
-        return Day {
-            letter: line.letter,
-            stock: numbers[0],
-            time: numbers[1],
-            message,
-            going: behind.live,
-            last,
-            left: left - 1,
-            flow: behind,
-        };
+        return at_message(line, message, last, left - 1, behind);
     }
     let number = last - left as u64 + 1;
     bad(output, behind, number);
@@ -213,6 +229,7 @@ fn next_message(input: &mut [u8], output: &[u8], last: u64, left: u32, flow: Flo
 // The same day, with other text in the output's block.
 fn with_flow(d: Day, flow: Flow) -> Day
     ensures { λ r. ⌜ (r .last ≡ d .last) × (r .left ≡ d .left) × Same (r .flow) flow ⌝ }
+    ensures { λ r. ⌜ r ≡ withFlow d flow ⌝ }
 {
     let message = d.message;
     Day {

@@ -92,12 +92,12 @@ fresh-is end u = (refl, (refl, (refl, (refl, (refl, (refl, (refl, (refl, (refl, 
 -- ------------------------------------------------------------------ a call on a book
 
 -- what the first checks of a call come to
-data Called (stocks times prices i : ℕ) : Type 0 where
+pub data Called (stocks times prices i : ℕ) : Type 0 where
   wrong-shape : ¬ IsShape stocks times prices → first (callChecks stocks times prices i) ≡ 1 → Called stocks times prices i
   no-stock : IsShape stocks times prices → stocks ≤ i → first (callChecks stocks times prices i) ≡ 3 → Called stocks times prices i
   there : IsShape stocks times prices → i < stocks → first (callChecks stocks times prices i) ≡ 0 → Called stocks times prices i
 
-called : (stocks times prices i : ℕ) → Called stocks times prices i
+pub called : (stocks times prices i : ℕ) → Called stocks times prices i
 unfolding callChecks first if_then_else_
 called stocks times prices i = go (badShape stocks times prices) refl (leb stocks i) refl
   where
@@ -133,7 +133,7 @@ module _ {A : Type 0} (zero : ℕ → A) (it : A) (numberOf : A → ℕ) (its : 
       go (no-stock _ _ e) = if-false _ _ _ (ne-eqb (first (callChecks stocks times prices i)) 0 (λ z. omega arith))
       go (there s l e) = absurd (n (s, l))
 
-  called-number : (own : List Number) → Gives own (numberOf it) → Gives (bookRefusals stocks times prices i own) (numberOf called-answer)
+  pub called-number : (own : List Number) → Gives own (numberOf it) → Gives (bookRefusals stocks times prices i own) (numberOf called-answer)
   called-number own g = go (called stocks times prices i)
     where
       c : ℕ
@@ -148,7 +148,7 @@ module _ {A : Type 0} (zero : ℕ → A) (it : A) (numberOf : A → ℕ) (its : 
       go (there s l e) = skip 1 _ _ _ (λ n. n s) (skip 3 _ _ _ (λ k. omega arith)
           (subst (λ a. Gives own (numberOf a)) (sym (if-there (s, l))) g))
 
-nothing-shown : (n : ℕ) (a : Answer) → a ≡ zeros n → ShowsNothing a
+pub nothing-shown : (n : ℕ) (a : Answer) → a ≡ zeros n → ShowsNothing a
 nothing-shown n a e = rw e (refl, (refl, (refl, (refl, (refl, (refl, (refl, refl)))))))
 
 module _ (end : ℕ) (b : List Whole) (times prices i : ℕ) where

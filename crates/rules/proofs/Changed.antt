@@ -14,6 +14,7 @@ use Rattle.forms.specs.Words.{_or_, _and_}
 use Rattle.forms.proofs.Choice.{if-true, if-false}
 use Rattle.forms.proofs.Decides.{Decides, words, is-true, is-false, either-way, by-le, by-eq, has, not-among}
 use Rattle.band.specs.Band.{movesOf}
+use Rattle.band.proofs.Words.{moves-decides}
 use Rattle.rules.specs.Stock.{Trade, Whole, Waiting, Trading, Limit, stateOf, is, at-time, in-state, refer-to, not-early, hold-ended, figuresOf, noTrades, meanIn}
 use Rattle.rules.specs.Quotes.{inForce, kTime, bandsIn, bestOf, flagged, atLimit}
 use Rattle.rules.specs.States.{look, begin-trading, leave, test}
@@ -33,7 +34,7 @@ use Rattle.rules.specs.declared.Message.{Message}
 use Rattle.rules.specs.declared.Message.the-variants.{Trade as T, Quote as Q, Opening as O, Pause as P, Reopening as R, Closing as X}
 use Rattle.rules.proofs.BestQuotes.{at-band-is}
 use Rattle.rules.proofs.Changing.{Changed, Come, Plain, look-else, closed, paused, begun, seen, same, plainly, unlooked, came}
-use Rattle.rules.proofs.Means.{mean, only-mean, moves-is}
+use Rattle.rules.proofs.Means.{mean, only-mean}
 use Rattle.rules.proofs.MomentRows.{IsRow, row-z, row-w-early, row-w-late, row-x, row-p, row-c, row-v, row-f, row-h, notice-row}
 
 -- ------------------------------------------------------------------ the Test
@@ -66,7 +67,7 @@ data Tested (w : List Trade) (s s′ : Stock) : Type 0 where
 tested : (w : List Trade) (s : Stock) → Tested w s (test (figuresOf w) s)
 unfolding test
 tested w s = go (allOf (is Trading s ∷ eqb (s .reference .hold) 0 ∷ not (noTrades (figuresOf w)) ∷ movesOf r 1 (s .reference .price) 1 ∷ []))
-    (search (words, moves-is))
+    (search (words, moves-decides))
   where
     r : ℕ
     r = meanIn (figuresOf w)

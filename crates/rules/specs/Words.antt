@@ -1,7 +1,8 @@
 -- Document 01 in words: ranges, quotes, moments, rubbish, numbers and answers, in the order of its sections. Each name is a proposition
 -- over numbers, or a table of such: no test of the rules is asked. From the rules it takes names only, of states (Stock), of marks (Moments)
--- and of fields; from the crate band, the bands. The demands `numbers`, `book-numbers`, `setup-numbers`, `moments-are`, `shows`, `answers` and
--- `mean` say that the rules compute this. Bytes, and what a refusal leaves of them, are stated in the crates stock and book.
+-- and of fields; from the crate band, the bands, and its words for the mean and one percent. The demands `numbers`, `book-numbers`,
+-- `setup-numbers`, `moments-are`, `shows`, `answers` and `mean` say that the rules compute this. Bytes, and what a refusal leaves of them, are
+-- stated in the crates stock and book.
 --
 -- To read it: `A and B`, `A or B`, `¬ A` are "and", "or", "not", and "and" binds before "or"; `a ≡ b` is "equals"; `(x : ℕ) × A` is "there is
 -- a number x with A"; `(x : ℕ) → A` is "for every x, A"; `n for A` is a row of a table: the number n, given where A holds and no row
@@ -14,6 +15,7 @@ use lib.ListN.{length}
 use Rattle.forms.specs.Words.{_or_, _and_, Some, IsOneOf, Number, Gives, Otherwise}
 use Rattle.forms.specs.Words.Number.{_for_}
 use Rattle.band.specs.Band.{percentOf, factorOf, bandsOf}
+use Rattle.band.specs.Words as arithmetic
 use Rattle.band.specs.declared.Limits.{Limits}
 use Rattle.rules.specs.Stock.{Trade, Whole, Waiting, Trading, Limit, Paused, Late, Closed, stateOf, clockOf}
 use Rattle.rules.specs.Moments.{mark-z, mark-w, mark-x, mark-p, mark-c, mark-v, mark-f, mark-h}
@@ -70,13 +72,13 @@ abbrev pub sumOf : List Trade → ℕ
 sumOf [] = 0
 sumOf (t ∷ ts) = t .price + sumOf ts
 
--- the mean of c prices with sum s is (2s + c) / 2c, dropping the rest: so a half goes up; there is none of no price
+-- the mean of trades, in band's words: the whole number nearest to their sum by their count, a half going up; of no trade there is none
 abbrev pub IsMean : List Trade → ℕ → Type 0
-IsMean w mean = (rest : ℕ) × (2 * sumOf w + length w ≡ mean * (2 * length w) + rest) × (rest < 2 * length w)
+IsMean w mean = arithmetic.IsMean (sumOf w) (length w) mean
 
--- 100 x |mean - reference| >= reference
+-- 100 x |mean - reference| >= reference, in band's words, of fractions over 1
 abbrev pub OnePercent : ℕ → ℕ → Type 0
-OnePercent mean reference = 100 * reference + reference ≤ 100 * mean or 100 * mean + reference ≤ 100 * reference
+OnePercent mean reference = arithmetic.OnePercent mean 1 reference 1
 
 -- ------------------------------------------------------------------ "Quotes and flags"
 

@@ -26,7 +26,11 @@ use Rattle.window.proofs.Laws as window
 use Rattle.window.proofs.Window.{length-trades}
 use Rattle.stock.proofs.Calls.{held-few, room, fired-few}
 use Rattle.stock.specs.View.{Bytes, bytes, view, lay, shaped, Outcome, telling, settling, reading}
-use Rattle.stock.specs.Laws.{Left, ReadBack, ToldByTheRules, SettledByTheRules, ToldOne, SettledOne, ToldRefused, SettledRefused, ToldInShape, SettledInShape, Laws}
+use Rattle.stock.specs.Laws.{Left, ShapedIs, ViewIs, ReadBack, ToldByTheRules, SettledByTheRules, ReadByTheRules, ToldOne, SettledOne, ToldRefused, SettledRefused, ToldInShape, SettledInShape, Laws}
+
+view-is : ViewIs
+view-is b =
+    (refl, window.laws .trades-counted (b .kept .count) (b .times) (b .prices), window.laws .trade-in-place (b .kept .count) (b .times) (b .prices))
 
 read-back : ReadBack
 read-back h b = simp (window.laws .read-back)
@@ -37,13 +41,20 @@ length-laid : (n : ℕ) (front xs : List ℕ) → max n (length front) ≤ lengt
 unfolding laid
 length-laid n front xs e = simp (length-append, length-replicate, length-drop) (omega arith)
 
-lay-shaped : (h : Whole) (b : Bytes) → shaped b ≡ true → b .kept .count ≤ 512 → length (h .window) ≤ 512 → shaped (lay h b) ≡ true
+shaped-is : ShapedIs
 unfolding shaped
-lay-shaped h b q c w = all-yes _ _ (as-long (λ t. t .at) (b .times) (eqb-true _ _ (all-head _ _ q)))
-    (all-yes _ _ (as-long (λ t. t .price) (b .prices) (eqb-true _ _ (all-head _ _ (all-tail _ _ q)))) all-empty)
+shaped-is b = (
+  (λ q. (eqb-true _ _ (all-head _ _ q), eqb-true _ _ (all-head _ _ (all-tail _ _ q)))),
+  (λ k. all-yes _ _ (eq-eqb _ _ (k .0)) (all-yes _ _ (eq-eqb _ _ (k .1)) all-empty)),
+)
+
+lay-shaped : (h : Whole) (b : Bytes) → shaped b ≡ true → b .kept .count ≤ 512 → length (h .window) ≤ 512 → shaped (lay h b) ≡ true
+lay-shaped h b q c w =
+    let k = shaped-is b .0 q in
+    shaped-is (lay h b) .1 (as-long (λ t. t .at) (b .times) (k .0), as-long (λ t. t .price) (b .prices) (k .1))
   where
-    as-long : (f : Trade → ℕ) (xs : List ℕ) → length xs ≡ 512 → eqb (length (laid (b .kept .count) (map f (h .window)) xs)) 512 ≡ true
-    as-long f xs e = eq-eqb _ _ (length-laid _ _ xs (max-le (omega arith) (simp length-map (omega arith))) ∙ e)
+    as-long : (f : Trade → ℕ) (xs : List ℕ) → length xs ≡ 512 → length (laid (b .kept .count) (map f (h .window)) xs) ≡ 512
+    as-long f xs e = length-laid _ _ xs (max-le (omega arith) (simp length-map (omega arith))) ∙ e
 
 -- ------------------------------------------------------------------ what any call comes to
 
@@ -141,13 +152,20 @@ settled-in-shape time b r times prices e =
     same-shape b (fire (view b)) (settles time (view b)) (settleAnswer time (view b)) (record { answer = zeros 1; moment = no-moment }) _ e
     (λ z. let sound = settled time (view b) z .sound in (held b sound, fired-few (view b) sound))
 
+read-by-the-rules : ReadByTheRules
+unfolding reading
+read-by-the-rules b = (if-true _ _ _, if-false _ _ _)
+
 pub laws : Laws
 laws = record {
+  shaped-is = shaped-is;
+  view-is = view-is;
   read-back = read-back;
   told-by-the-rules = told-by-the-rules;
   settled-by-the-rules = settled-by-the-rules;
   told-one = told-one;
   settled-one = settled-one;
+  read-by-the-rules = read-by-the-rules;
   told-refused = told-refused;
   settled-refused = settled-refused;
   told-in-shape = told-in-shape;

@@ -1,13 +1,16 @@
 -- What the promises of a record's methods come to. Each field is a theorem: `laws` of proofs/Laws.antt proves the record.
 -- Assumes nothing.
-use Prim.Native.Nat.{ℕ}
+use Prim.Native.Nat.{ℕ, _<_}
 use mathlib.Core.Bool.{true, false}
 use mathlib.Core.List.{List}
+use mathlib.Core.Logic.{_↔_}
 use mathlib.Core.Path.{_≡_}
+use lib.ListN.{length, getD}
 use Rattle.forms.specs.Promises.{Determines}
-use Rattle.rules.specs.Stock.{Whole}
+use Rattle.forms.specs.Words.{_and_}
+use Rattle.rules.specs.Stock.{Trade, Whole}
 use Rattle.rules.specs.Moments.{no-moment}
-use Rattle.rules.specs.Numbers.{zeros, afterTelling, afterSettling, tellAnswer, settleAnswer}
+use Rattle.rules.specs.Numbers.{zeros, afterTelling, afterSettling, tellAnswer, settleAnswer, readAnswer}
 use Rattle.rules.specs.declared.Answer.{Answer}
 use Rattle.rules.specs.declared.Message.{Message}
 use Rattle.stock.specs.View.{Bytes, bytes, view, lay, shaped, Tells, Settles, reading}
@@ -19,6 +22,15 @@ pub record Left (R : Type 0) : Type 0 where
   pub result : R
   pub times : List ℕ
   pub prices : List ℕ
+
+-- the parts of a stock are in shape where each has 512 places
+abbrev pub ShapedIs : Type 0
+ShapedIs = (b : Bytes) → (shaped b ≡ true) ↔ (length (b .times) ≡ 512 and length (b .prices) ≡ 512)
+
+-- what is read: the record's stock, with as many trades as it counts, each in its place of both parts
+abbrev pub ViewIs : Type 0
+ViewIs = (b : Bytes) → (view b .stock ≡ b .kept .stock) × (length (view b .window) ≡ b .kept .count)
+    × ((j : ℕ) (d : Trade) → j < b .kept .count → getD (view b .window) j d ≡ record { at = getD (b .times) j 0; price = getD (b .prices) j 0 })
 
 -- what is laid is read again, whatever stood there
 abbrev pub ReadBack : Type 0
@@ -41,6 +53,10 @@ abbrev pub SettledOne : Type 0
 SettledOne = (time : ℕ) (b : Bytes) (r : Settled) (times prices : List ℕ) → Settles time b r times prices → shaped b ≡ false
     → r .notice ≡ record { answer = zeros 1; moment = no-moment }
 
+-- what reading answers, of each
+abbrev pub ReadByTheRules : Type 0
+ReadByTheRules = (b : Bytes) → (shaped b ≡ true → reading b ≡ readAnswer (view b)) × (shaped b ≡ false → reading b ≡ zeros 1)
+
 -- every number but 0 leaves every byte as it stood
 abbrev pub ToldRefused : Type 0
 ToldRefused = (m : Message) (b : Bytes) (r : Told) (times prices : List ℕ) → Tells m b r times prices → (r .answer .number ≡ 0 → ⊥)
@@ -60,11 +76,14 @@ SettledInShape = (time : ℕ) (b : Bytes) (r : Settled) (times prices : List ℕ
     → shaped (bytes (r .next) times prices) ≡ shaped b
 
 pub record Laws : Type 0 where
+  pub shaped-is : ShapedIs
+  pub view-is : ViewIs
   pub read-back : ReadBack
   pub told-by-the-rules : ToldByTheRules
   pub settled-by-the-rules : SettledByTheRules
   pub told-one : ToldOne
   pub settled-one : SettledOne
+  pub read-by-the-rules : ReadByTheRules
   pub told-refused : ToldRefused
   pub settled-refused : SettledRefused
   pub told-in-shape : ToldInShape

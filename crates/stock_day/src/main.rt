@@ -1,5 +1,5 @@
-// Plays the day of document 01 through the methods of one stock's record, and prints the lines that document
-// 01 prints: each stands for the stock 0.
+// Plays the day of document 01 twice, through the methods of one stock's record and through the book's functions
+// over a lent record, and prints the lines that document 01 prints, twice: each stands for the stock 0.
 use rules::Answer;
 use rules::Course;
 use rules::Message;
@@ -8,6 +8,10 @@ use rules::Reference;
 use rules::Setup;
 use rules::Stock;
 use stock::Record;
+use stock::Settled;
+use stock::Told;
+
+mod lend;
 
 // The record that a setup starts: Waiting, no quotes, clock 0, no trade.
 fn started(setup: Setup, end: u32) -> Record {
@@ -65,15 +69,31 @@ fn print_line(time: u64, letter: u8, a: Answer) {
     io::write_all(1, b"\n");
 }
 
+// Settles the stock to a time, by the method of its record or, where it is lent, by the book.
+fn settle(r: Record, times: &mut [u32], prices: &mut [u32], time: u32, lent: bool) -> Settled {
+    if lent {
+        return lend::settle(r, times, prices, time);
+    }
+    r.settle(times, prices, time)
+}
+
+// Tells the stock a message, likewise.
+fn tell(r: Record, times: &mut [u32], prices: &mut [u32], m: Message, lent: bool) -> Told {
+    if lent {
+        return lend::tell(r, times, prices, m);
+    }
+    r.tell(times, prices, m)
+}
+
 // Settles to a time, and prints each moment.
-fn settled(r: Record, times: &mut [u32], prices: &mut [u32], time: u32) -> Record {
+fn settled(r: Record, times: &mut [u32], prices: &mut [u32], time: u32, lent: bool) -> Record {
     let mut next = r;
     for i in 0..2_000u32 {
-        let done = next.settle(times, prices, time);
+        let done = settle(next, times, prices, time, lent);
         let notice = done.notice;
         let answer = notice.answer;
         if answer.number != 0 {
-            return next;
+            return done.next;
         }
         let moment = notice.moment;
         print_line(moment.time, (moment.mark % 256) as u8, answer);
@@ -90,64 +110,66 @@ fn told(
     letter: u8,
     time: u32,
     m: Message,
+    lent: bool,
 ) -> Record {
-    let before = settled(r, times, prices, time);
-    let done = before.tell(times, prices, m);
+    let before = settled(r, times, prices, time, lent);
+    let done = tell(before, times, prices, m, lent);
     print_line(time as u64, letter, done.answer);
     done.next
 }
 
 // An opening, and a quote inside the bands.
-fn opened(r: Record, times: &mut [u32], prices: &mut [u32]) -> Record {
+fn opened(r: Record, times: &mut [u32], prices: &mut [u32], lent: bool) -> Record {
     let m = Message::Opening {
         time: 1_000,
         participant: 2,
         price: 115_000,
     };
-    let r = told(r, times, prices, b'O', 1_000, m);
+    let r = told(r, times, prices, b'O', 1_000, m, lent);
     let m = Message::Quote {
         time: 2_000,
         participant: 5,
         bid: 114_900,
         offer: 115_100,
     };
-    told(r, times, prices, b'Q', 2_000, m)
+    told(r, times, prices, b'Q', 2_000, m, lent)
 }
 
 // An offer at the lower band, and Limit once the bid is gone.
-fn limited(r: Record, times: &mut [u32], prices: &mut [u32]) -> Record {
+fn limited(r: Record, times: &mut [u32], prices: &mut [u32], lent: bool) -> Record {
     let m = Message::Quote {
         time: 3_000,
         participant: 7,
         bid: 0,
         offer: 92_000,
     };
-    let r = told(r, times, prices, b'Q', 3_000, m);
+    let r = told(r, times, prices, b'Q', 3_000, m, lent);
     let m = Message::Quote {
         time: 4_000,
         participant: 5,
         bid: 0,
         offer: 115_100,
     };
-    told(r, times, prices, b'Q', 4_000, m)
+    told(r, times, prices, b'Q', 4_000, m, lent)
 }
 
 // A trade in Limit, and the reopening after the pause that it became.
-fn reopened(r: Record, times: &mut [u32], prices: &mut [u32]) -> Record {
+fn reopened(r: Record, times: &mut [u32], prices: &mut [u32], lent: bool) -> Record {
     let m = Message::Trade {
         time: 5_000,
         price: 92_000,
     };
-    let r = told(r, times, prices, b'T', 5_000, m);
+    let r = told(r, times, prices, b'T', 5_000, m, lent);
     let m = Message::Reopening {
         time: 319_000,
         participant: 2,
         price: 95_000,
     };
-    told(r, times, prices, b'R', 319_000, m)
+    told(r, times, prices, b'R', 319_000, m, lent)
 }
 
-fn main() {
+// The day, from its setup on.
+fn day(lent: bool) {
     let mut t = [0u32; 512];
     let mut p = [0u32; 512];
     let setup = Setup {
@@ -157,12 +179,17 @@ fn main() {
         close: 115_000,
     };
     let r = started(setup, 23_400_000);
-    let r = opened(r, &mut t, &mut p);
-    let r = limited(r, &mut t, &mut p);
-    let r = reopened(r, &mut t, &mut p);
+    let r = opened(r, &mut t, &mut p, lent);
+    let r = limited(r, &mut t, &mut p, lent);
+    let r = reopened(r, &mut t, &mut p, lent);
     let m = Message::Trade {
         time: 319_500,
         price: 120_000,
     };
-    told(r, &mut t, &mut p, b'T', 319_500, m);
+    told(r, &mut t, &mut p, b'T', 319_500, m, lent);
+}
+
+fn main() {
+    day(false);
+    day(true);
 }

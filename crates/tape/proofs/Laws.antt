@@ -9,6 +9,7 @@ use native.Mathlib.Omega.{arith}
 use borrow.Author.Tests.{le-leb}
 use lib.ListN.{length, take, replicate, length-append, length-map}
 use lib.Seq.{take-at}
+use Rattle.bytes.specs.Bytes.{indexOf, indexAfter}
 use Rattle.forms.specs.Choice.{if_then_else_, allOf, anyOf}
 use Rattle.forms.specs.Tables.{every}
 use Rattle.forms.proofs.Choice.{all-head, all-tail, all-yes, all-empty}
@@ -17,7 +18,7 @@ use Rattle.tape.specs.Lines.{isDigit, further, spelt, isNumber, parted, 
 use Rattle.tape.specs.Lines.Reads.{a-line, no-line}
 use Rattle.tape.specs.Printing.{decimal, digits, ahead, printed, printing}
 use Rattle.tape.specs.Scanning.{opened, lengthened, digit, step, place, finished, scanned}
-use Rattle.tape.specs.Examples.{right, words, AllRead, lines, FirstLine}
+use Rattle.tape.specs.Examples.{right, words, AllRead, lines, ends, endings, FirstLine}
 use Rattle.tape.specs.Laws.{ReadsBack, OneWay, NoLonger, Laws}
 use Rattle.tape.specs.declared.Line.{Line}
 use Rattle.tape.proofs.Printing.{low, high, tenth, below-or-not}
@@ -111,7 +112,11 @@ words-are-right = refl
 
 lines-are-read : AllRead lines
 unfolding scanned finished step opened digit lengthened place numbersIn further anyOf if_then_else_
-lines-are-read = (reads _, (reads _, (reads _, (reads _, (reads _, (reads _, (reads _, (reads _, (reads _, (reads _, (reads _, (reads _, (reads _, (reads _, tt))))))))))))))
+lines-are-read = (reads _, (reads _, (reads _, (reads _, (reads _, (reads _, (reads _, (reads _, (reads _, (reads _, (reads _, (reads _, (reads _, (reads _, (reads _, (reads _, (reads _, tt)))))))))))))))))
+
+feeds-end-lines : every ends endings ≡ true
+unfolding every ends indexOf indexAfter allOf if_then_else_
+feeds-end-lines = refl
 
 first-line : FirstLine
 unfolding printed ahead parted digits decimal if_then_else_
@@ -127,6 +132,7 @@ laws = record {
   no-longer = no-longer;
   words-are-right = words-are-right;
   lines-are-read = lines-are-read;
+  feeds-end-lines = feeds-end-lines;
   first-line = first-line;
   read-determined = λ text r s p q. read-scanned text r p ∙ sym (read-scanned text s q);
   feed-determined = λ text. agree (toFeed text);

@@ -6,7 +6,7 @@ use mathlib.Core.List.{List, [], _∷_}
 use mathlib.Core.Path.{_≡_}
 use lib.Dec.{eqb}
 use Rattle.forms.specs.Choice.{if_then_else_, allOf}
-use Rattle.tape.specs.Lines.{isNumber, spelt, unread, Reads}
+use Rattle.tape.specs.Lines.{isNumber, spelt, unread, Reads, toFeed}
 use Rattle.tape.specs.Printing.{printed}
 use Rattle.tape.specs.declared.Line.{Line}
 
@@ -48,7 +48,8 @@ AllRead [] = Unit {0}
 AllRead (e ∷ es) = Reads (e .text) (e .line) × AllRead es
 
 -- `C 1 7 23400000`, `S 2 1 2 115000`, `T 0 5000 92000`, `Q 0 2000 5 114900 115100`, `O 0 1000 2 115000`, `P 0 5000 2`, `R 0 319000 2 95000`, `X 0 5000 2 7`;
--- and no lines: `Q 0 2000 5 114900`, `T 0 5000 92000 1`, `t 0 5000 92000`, `T  0 5000 92000`, `T 0 5000 92000 `, `T`
+-- and no lines: `Q 0 2000 5 114900`, `T 0 5000 92000 1`, `t 0 5000 92000`, `T  0 5000 92000`, `T 0 5000 92000 `, `T`, `T 0 5000 92000` and a carriage
+-- return (13), the same with a tab (9) for its first space, and no byte
 abbrev pub lines : List Example
 lines =
     record { text = (67 ∷ 32 ∷ 49 ∷ 32 ∷ 55 ∷ 32 ∷ 50 ∷ 51 ∷ 52 ∷ 48 ∷ 48 ∷ 48 ∷ 48 ∷ 48 ∷ []); line = record { letter = 67; numbers = 1 ∷ 7 ∷ 23_400_000 ∷ 0 ∷ 0 ∷ [] } }
@@ -64,7 +65,30 @@ lines =
     ∷ record { text = (116 ∷ 32 ∷ 48 ∷ 32 ∷ 53 ∷ 48 ∷ 48 ∷ 48 ∷ 32 ∷ 57 ∷ 50 ∷ 48 ∷ 48 ∷ 48 ∷ []); line = unread }
     ∷ record { text = (84 ∷ 32 ∷ 32 ∷ 48 ∷ 32 ∷ 53 ∷ 48 ∷ 48 ∷ 48 ∷ 32 ∷ 57 ∷ 50 ∷ 48 ∷ 48 ∷ 48 ∷ []); line = unread }
     ∷ record { text = (84 ∷ 32 ∷ 48 ∷ 32 ∷ 53 ∷ 48 ∷ 48 ∷ 48 ∷ 32 ∷ 57 ∷ 50 ∷ 48 ∷ 48 ∷ 48 ∷ 32 ∷ []); line = unread }
-    ∷ record { text = (84 ∷ []); line = unread } ∷ []
+    ∷ record { text = (84 ∷ []); line = unread }
+    ∷ record { text = (84 ∷ 32 ∷ 48 ∷ 32 ∷ 53 ∷ 48 ∷ 48 ∷ 48 ∷ 32 ∷ 57 ∷ 50 ∷ 48 ∷ 48 ∷ 48 ∷ 13 ∷ []); line = unread }
+    ∷ record { text = (84 ∷ 9 ∷ 48 ∷ 32 ∷ 53 ∷ 48 ∷ 48 ∷ 48 ∷ 32 ∷ 57 ∷ 50 ∷ 48 ∷ 48 ∷ 48 ∷ []); line = unread }
+    ∷ record { text = []; line = unread } ∷ []
+
+-- ------------------------------------------------------------------ where a line ends
+
+-- bytes, and how many of them stand before the first line feed
+pub record Ending : Type 0 where
+  pub bytes : List ℕ
+  pub before : ℕ
+
+unfoldable pub ends : Ending → Bool
+ends e = eqb (toFeed (e .bytes)) (e .before)
+
+-- `T 0 5000 9`, a carriage return (13), `1`, a line feed (10) and `T`; `9`, a carriage return and a line feed; the same without the line feed; a line
+-- feed ahead of a carriage return; no byte
+abbrev pub endings : List Ending
+endings =
+    record { bytes = (84 ∷ 32 ∷ 48 ∷ 32 ∷ 53 ∷ 48 ∷ 48 ∷ 48 ∷ 32 ∷ 57 ∷ 13 ∷ 49 ∷ 10 ∷ 84 ∷ []); before = 12 }
+    ∷ record { bytes = (57 ∷ 13 ∷ 10 ∷ []); before = 2 }
+    ∷ record { bytes = (57 ∷ 13 ∷ []); before = 2 }
+    ∷ record { bytes = (10 ∷ 13 ∷ []); before = 0 }
+    ∷ record { bytes = []; before = 0 } ∷ []
 
 -- ------------------------------------------------------------------ a line that is printed
 

@@ -7,7 +7,7 @@ use mathlib.Core.Path.{_≡_}
 use lib.ListN.{length}
 use Rattle.forms.specs.Promises.{Determines}
 use Rattle.forms.specs.Tables.{every}
-use Rattle.tape.specs.Examples.{right, words, AllRead, lines, FirstLine}
+use Rattle.tape.specs.Examples.{right, words, AllRead, lines, ends, endings, FirstLine}
 use Rattle.tape.specs.Lines.{isNumber, spelt, IsLine, Reads, toFeed}
 use Rattle.tape.specs.Printing.{digits, Printed, printing}
 
@@ -36,6 +36,7 @@ pub record Laws : Type 0 where
   -- the computed examples
   pub words-are-right : every right words ≡ true
   pub lines-are-read : AllRead lines
+  pub feeds-end-lines : every ends endings ≡ true
   pub first-line : FirstLine
   -- two results that a promise of src/lib.rt allows agree
   pub read-determined : (text : List ℕ) → Determines (λ r. Reads text r)

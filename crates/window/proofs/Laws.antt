@@ -1,6 +1,7 @@
 -- The laws of specs/Laws.antt.
 -- Assumes nothing.
 use Prim.Native.Nat.{ℕ, zero, suc, _+_, _-_, _<_, max}
+use native.Mathlib.Nat.{not-suc-le-zero}
 use native.Mathlib.Omega.{arith}
 use mathlib.Core.Bool.{Bool, true, false}
 use mathlib.Core.List.{List, [], _∷_, _++_, map}
@@ -14,9 +15,28 @@ use Rattle.forms.proofs.Choice.{if-true, if-false}
 use Rattle.forms.proofs.Promises.{agree}
 use Rattle.rules.specs.Stock.{Trade, staying}
 use Rattle.window.specs.Places.{trades, laid, Written, surveyOf, leftOf, goneOf, restOf}
-use Rattle.window.specs.Laws.{ReadBack, FreedAreZero, GoneAreTheRest, Places, Laws}
+use Rattle.window.specs.Laws.{TradeInPlace, ReadBack, FreedAreZero, GoneAreTheRest, Places, Laws}
 use Rattle.window.specs.declared.Change.{Change}
-use Rattle.window.proofs.Window.{times-of}
+use Rattle.window.proofs.Window.{length-trades, times-of}
+
+-- ------------------------------------------------------------------ which place is which trade's
+
+trade-in-place : TradeInPlace
+unfolding trades
+trade-in-place zero ts ps j d h = absurd (not-suc-le-zero h)
+trade-in-place (suc n) ts ps j d h = go (trade-in-place n ts ps j d) (ltb j n) refl
+  where
+    long : length (trades n ts ps) ≡ n
+    long = length-trades n ts ps
+
+    go : (j < n → getD (trades n ts ps) j d ≡ record { at = getD ts j 0; price = getD ps j 0 }) → (b : Bool) → ltb j n ≡ b
+        → getD (trades n ts ps ++ (record { at = getD ts n 0; price = getD ps n 0 } ∷ [])) j d ≡ record { at = getD ts j 0; price = getD ps j 0 }
+    go before true q = List·getD-append (trades n ts ps) _ d j (omega (arith, long, ltb-true j n q)) ∙ before (ltb-true j n q)
+    go before false q =
+        let e : j ≡ n = omega (arith, ltb-false j n q) in
+        let f : j ≡ length (trades n ts ps) + 0 = omega (arith, e, long) in
+        ap (λ k. getD (trades n ts ps ++ (record { at = getD ts n 0; price = getD ps n 0 } ∷ [])) k d) f
+        ∙ getD-append-add (trades n ts ps) _ 0 d ∙ rw e
 
 -- ------------------------------------------------------------------ what is laid is read again
 
@@ -93,6 +113,8 @@ written-agree change count times prices r s a b =
 
 pub laws : Laws
 laws = record {
+  trades-counted = length-trades;
+  trade-in-place = trade-in-place;
   read-back = read-back;
   freed-are-zero = freed-are-zero;
   gone-are-the-rest = gone-are-the-rest;

@@ -1,6 +1,6 @@
 -- What the places of a window obey. Each field is a theorem: `laws` of proofs/Laws.antt proves the record.
 -- Assumes nothing.
-use Prim.Native.Nat.{ℕ, _≤_}
+use Prim.Native.Nat.{ℕ, _≤_, _<_}
 use mathlib.Core.List.{List, map}
 use mathlib.Core.Path.{_≡_}
 use lib.Dec.{ltb}
@@ -12,6 +12,15 @@ use Rattle.rules.specs.declared.Figures.{Figures}
 use Rattle.window.specs.Places.{trades, laid, Written, surveyOf, goneOf, restOf}
 use Rattle.window.specs.declared.Change.{Change}
 use Rattle.window.specs.declared.Surveyed.{Surveyed}
+
+-- as many trades are read as are counted
+abbrev pub TradesCounted : Type 0
+TradesCounted = (n : ℕ) (times prices : List ℕ) → length (trades n times prices) ≡ n
+
+-- trade j of them is in place j, its time in the one array and its price in the other
+abbrev pub TradeInPlace : Type 0
+TradeInPlace = (n : ℕ) (times prices : List ℕ) (j : ℕ) (d : Trade) → j < n
+    → getD (trades n times prices) j d ≡ record { at = getD times j 0; price = getD prices j 0 }
 
 -- what is laid into places is read from them again, whatever stood there
 abbrev pub ReadBack : Type 0
@@ -34,6 +43,8 @@ pub record Places : Type 0 where
   pub prices : List ℕ
 
 pub record Laws : Type 0 where
+  pub trades-counted : TradesCounted
+  pub trade-in-place : TradeInPlace
   pub read-back : ReadBack
   pub freed-are-zero : FreedAreZero
   pub gone-are-the-rest : GoneAreTheRest

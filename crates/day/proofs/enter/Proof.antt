@@ -1,6 +1,7 @@
 use native.Mathlib.Omega.{arith}
 use lib.ListN.{length-set}
 use borrow.Author.Needs.{needs}
+use Rattle.day.specs.Contents.{entered}
 use Rattle.day.proofs.enter.Statement.{statement}
 use Rattle.day.proofs.enter.Tie as tie
 
@@ -56,6 +57,7 @@ same-length : tie.Need-same-length
 same-length c = search needs
 
 returns : tie.Need-returns
+unfolding entered
 returns c = search needs
 
 pub enter-spec : {M : Type 1} → statement M

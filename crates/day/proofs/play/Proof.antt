@@ -54,8 +54,8 @@ loop-less c = omega (arith, c .before .before .before .before .before .before .b
 loop-again : tie.Need-loop-again Inv-loop μ-loop
 loop-again c =
     let i = c .before .before .before .before .before .before .before .before .before .before .before .before .before .before .before .before .before .before .before .before .before .before .before .loop .inv in
-    let p = c .before .before .before .before .put .ensures in
-    let w = c .with-flow .ensures in (
+    let p = c .before .before .before .before .put .ensures .0 in
+    let w = c .with-flow .ensures .0 in (
       i .0,
       c .before .before .before .before .put .kept .0 ∙ i .1,
       c .before .before .before .before .before .before .before .before .before .before .before .before .before .before .before .before .settle .kept .1 .1 .0 ∙ i .2,
@@ -79,7 +79,7 @@ put-requires-2 c κs = omega (arith, c .before .before .before .before .before .
 next-message-requires : tie.Need-next-message-requires Inv-loop μ-loop
 next-message-requires c κs =
     let i = c .before .before .before .before .before .before .before .before .before .before .before .before .before .before .before .before .before .before .before .before .before .before .before .before .before .before .before .before .before .before .loop .inv in
-    let p = c .before .before .before .before .before .put2 .ensures in
+    let p = c .before .before .before .before .before .put2 .ensures .0 in
     (i .4 .0, i .4 .1, (omega (arith, i .4 .2 .0, p .1, p .2), omega (arith, i .0, i .4 .2 .1, p .2), omega (arith, p .0, c .before .before .before .before .before .put2 .kept .0)))
 
 add-turn-2 : tie.Need-add-turn-2 Inv-loop μ-loop

@@ -7,11 +7,11 @@ use Rattle.stock_day.proofs.settled.Statement.{statement}
 use Rattle.stock_day.proofs.settled.Tie as tie
 
 abbrev Inv-loop : tie.InvT-loop
-Inv-loop times₀ prices₀ time next₀ i₀ times prices next i =
+Inv-loop times₀ prices₀ time lent next₀ i₀ times prices next i =
     (i ≤ 2_000) × (length times ≡ length times₀) × (length prices ≡ length prices₀)
 
 abbrev μ-loop : tie.MeasureT-loop
-μ-loop times₀ prices₀ time next₀ i₀ times prices next i = 2_000 - i
+μ-loop times₀ prices₀ time lent next₀ i₀ times prices next i = 2_000 - i
 
 loop-holds : tie.Need-loop-holds Inv-loop μ-loop
 loop-holds c = (omega arith, refl, refl)

@@ -1,28 +1,21 @@
+use Prim.Native.Nat.{ℕ}
+use mathlib.Core.List.{List}
+use mathlib.Core.Path.{_≡_}
 use native.Mathlib.Omega.{arith}
 use borrow.Author.Needs.{needs}
+use lib.ListN.{length}
+use Rattle.rules.specs.declared.Answer.{Answer}
+use Rattle.tape.specs.Printing.{Printed, printing}
+use Rattle.day.specs.Printed.{printedOf, placeOf, putOf}
 use Rattle.day.proofs.flow.put.Statement.{statement}
 use Rattle.day.proofs.flow.put.Tie as tie
 
-cast-print : tie.Need-cast-print
-cast-print c = search needs
+there : (bytes : List ℕ) (at place stock time letter : ℕ) (numbers : List ℕ) (a : Answer) (r : Printed) → place ≡ placeOf (length bytes) at → numbers ≡ printedOf a
+    → r ≡ printing bytes place stock time letter numbers → r ≡ putOf bytes at stock time letter a
+there bytes at place stock time letter numbers a r p n e = rw (p, n) at e
 
-cast-t14 : tie.Need-cast-t14
-cast-t14 c = search needs
-
-cast-t15 : tie.Need-cast-t15
-cast-t15 c = search needs
-
-cast-t16 : tie.Need-cast-t16
-cast-t16 c = search needs
-
-cast-t17 : tie.Need-cast-t17
-cast-t17 c = search needs
-
-cast-t18 : tie.Need-cast-t18
-cast-t18 c = search needs
-
-cast-t19 : tie.Need-cast-t19
-cast-t19 c = search needs
+numbers-of-requires : tie.Need-numbers-of-requires
+numbers-of-requires c κs = search needs
 
 with-room-requires : tie.Need-with-room-requires
 with-room-requires c κs = search needs
@@ -37,19 +30,13 @@ same-length : tie.Need-same-length
 same-length c = search needs
 
 returns : tie.Need-returns
-returns c = (c .before .before .print .ensures .0 (omega arith), omega arith, omega arith)
+returns c = ((c .before .before .print .ensures .0 (omega arith), omega arith, omega arith), search there)
 
 pub put-spec : {M : Type 1} → statement M
 put-spec =
     tie.close
     (tie.spec
-    cast-print
-    cast-t14
-    cast-t15
-    cast-t16
-    cast-t17
-    cast-t18
-    cast-t19
+    numbers-of-requires
     with-room-requires
     slice-aggregate-print
     print-requires

@@ -1,0 +1,69 @@
+-- Document 01's "Band arithmetic" in words, and of "States" the one percent test. Each name is a proposition over numbers, or a table of
+-- such: no test and no function of Band.antt is asked, only the name `small`. The laws `percent-is`, `factor-is`, `spread-is`, `cent-is`,
+-- `bands-are`, `mean-is` and `moves-is` say that Band.antt computes this.
+--
+-- To read it: `A and B`, `A or B`, `¬ A` are "and", "or", "not"; `a ≡ b` is "equals"; `(x : ℕ) × A` is "there is a number x with A"; `n for A`
+-- is a row of a table: the number n, given where A holds and no row above does. A price is whole ten-thousandths of a dollar, and a
+-- reference is n / d.
+-- Assumes nothing.
+use Prim.Native.Nat.{ℕ, _+_, _-_, _*_, _≤_, _<_}
+use mathlib.Core.List.{List, [], _∷_}
+use mathlib.Core.Path.{_≡_}
+use Rattle.forms.specs.Words.{_or_, _and_, Number, Gives, Otherwise}
+use Rattle.forms.specs.Words.Number.{_for_}
+use Rattle.band.specs.Band.{small}
+
+-- ------------------------------------------------------------------ percent and k
+
+-- over 30,000, 5 for tier 1 and 10 for tier 2; 7,500 to 30,000, 20; below 7,500, the small rule
+abbrev pub percents : (tier close : ℕ) → List Number
+percents tier close =
+    5 for (30_000 < close and tier ≡ 1) ∷
+    10 for (30_000 < close and tier ≡ 2) ∷
+    20 for (7_500 ≤ close and close ≤ 30_000) ∷
+    small for (close < 7_500) ∷
+    []
+
+-- k is the leverage, doubled when time < 900,000 or time >= E - 1,500,000
+abbrev pub factors : (leverage time end : ℕ) → List Number
+factors leverage time end =
+    (2 * leverage) for (time < 900_000 or end - 1_500_000 ≤ time) ∷
+    leverage for Otherwise ∷
+    []
+
+-- ------------------------------------------------------------------ the bands of a reference n / d
+
+-- A, over d and in hundredths of a price's unit: k x percent x n; by the small rule k times the lesser of 15 cents and 75 percent
+abbrev pub spreads : (n d percent k : ℕ) → List Number
+spreads n d percent k =
+    (k * percent * n) for (¬ (percent ≡ small)) ∷
+    (k * (75 * n)) for (75 * n < 150_000 * d) ∷
+    (k * (150_000 * d)) for Otherwise ∷
+    []
+
+-- x / d, in hundredths of a price's unit, to the nearest cent: at most half a cent above it and less than half below, so a half goes up
+abbrev pub NearestCent : (x d price : ℕ) → Type 0
+NearestCent x d price =
+    (cents : ℕ) × (price ≡ 100 * cents) × (10_000 * cents * d ≤ x + 5_000 * d) × (x < 10_000 * cents * d + 5_000 * d)
+
+-- lower is the reference less A, to the nearest cent, and 0 where A is more
+abbrev pub IsLower : (n d a lower : ℕ) → Type 0
+IsLower n d a lower = (a ≤ 100 * n and NearestCent (100 * n - a) d lower) or (100 * n < a and lower ≡ 0)
+
+-- upper is the reference plus A, to the nearest cent, and one cent where that is 0
+abbrev pub IsUpper : (n d a upper : ℕ) → Type 0
+IsUpper n d a upper = (1 ≤ upper and NearestCent (100 * n + a) d upper) or (NearestCent (100 * n + a) d 0 and upper ≡ 100)
+
+-- both bands
+abbrev pub AreBands : (n d percent k lower upper : ℕ) → Type 0
+AreBands n d percent k lower upper = (a : ℕ) × Gives (spreads n d percent k) a × IsLower n d a lower × IsUpper n d a upper
+
+-- ------------------------------------------------------------------ the mean, and one percent
+
+-- the whole number nearest to sum / count: at most a half above it and less than a half below, so a half goes up; of no price there is none
+abbrev pub IsMean : (sum count mean : ℕ) → Type 0
+IsMean sum count mean = 2 * mean * count ≤ 2 * sum + count and 2 * sum < 2 * mean * count + count
+
+-- 100 x |mean - reference| >= reference, of a mean m / c and a reference n / d, each times c x d
+abbrev pub OnePercent : (m c n d : ℕ) → Type 0
+OnePercent m c n d = 100 * (n * c) + n * c ≤ 100 * (m * d) or 100 * (m * d) + n * c ≤ 100 * (n * c)

@@ -1,0 +1,78 @@
+-- The bytes of a book in words: which entry of which array is what, and the table of numbers of each call on any bytes (document 01,
+-- "What the book holds", "Numbers given back"). Ranges, rubbish and the tables of one stock are those of the rules' Words; the key of the
+-- rules' Demands.antt says how to read them.
+-- Assumes nothing.
+use Prim.Native.Nat.{ℕ, _+_, _*_, _≤_, _<_}
+use mathlib.Core.List.{List, [], _∷_}
+use mathlib.Core.Path.{_≡_}
+use lib.ListN.{length, getD}
+use Rattle.forms.specs.Words.{_or_, _and_, Number}
+use Rattle.forms.specs.Words.Number.{_for_}
+use Rattle.rules.specs.Stock.{Trade, Whole}
+use Rattle.rules.specs.Book.{blank}
+use Rattle.rules.specs.Words.{IsShape, IsEnd, IsSetup, bookRefusals}
+use Rattle.rules.specs.declared.Setup.{Setup}
+use Rattle.stock.specs.declared.Record.{Record}
+use Rattle.book.specs.Lent.{Lent, noRecord}
+
+-- ------------------------------------------------------------------ what the bytes of a stock mean
+
+-- the record of stock i
+abbrev pub recordAt : ℕ → Lent → Record
+recordAt i b = getD (b .records) i noRecord
+
+-- in place j of stock i, which is entry 512 i + j of each array, stand this time and this price
+abbrev pub InPlace : ℕ → ℕ → Lent → (time price : ℕ) → Type 0
+InPlace i j b time price = time ≡ getD (b .times) (512 * i + j) 0 and price ≡ getD (b .prices) (512 * i + j) 0
+
+-- no trade
+abbrev pub noTrade : Trade
+noTrade = record { at = 0; price = 0 }
+
+-- the bytes of stock i mean h: the record has the stock, and counts the trades of the window; trade j, from the oldest on, is in place j. A
+-- stock has 512 places: a trade that is counted beyond them reads 0, and the stock is rubbish
+pub record Means (i : ℕ) (b : Lent) (h : Whole) : Type 0 where
+  pub stock : h .stock ≡ recordAt i b .stock
+  pub count : length (h .window) ≡ recordAt i b .count
+  pub held : (j : ℕ) → j < length (h .window) → j < 512 → let t = getD (h .window) j noTrade in InPlace i j b (t .at) (t .price)
+  pub beyond : (j : ℕ) → j < length (h .window) → 512 ≤ j → getD (h .window) j noTrade ≡ noTrade
+
+-- a place behind the held trades of stock i is 0
+abbrev pub UnusedAre0 : ℕ → Lent → Type 0
+UnusedAre0 i b = (j : ℕ) → recordAt i b .count ≤ j → j < 512 → InPlace i j b 0 0
+
+-- the bytes are those of a book that was set up: 512 places of each array for each stock, of which those in use mean the stock
+pub record LaidOut (hs : List Whole) (b : Lent) : Type 0 where
+  pub stocks : length (b .records) ≡ length hs
+  pub times : length (b .times) ≡ 512 * length hs
+  pub prices : length (b .prices) ≡ 512 * length hs
+  pub each : (i : ℕ) → i < length hs → Means i b (getD hs i (blank 0))
+  pub unused : (i : ℕ) → i < length hs → UnusedAre0 i b
+
+-- ------------------------------------------------------------------ the list of a setup
+
+-- the setup of stock i: tier, leverage, primary and close, the entries from 4 i on in this order
+abbrev pub setupIn : List ℕ → ℕ → Setup
+setupIn list i = record {
+  tier = getD list (4 * i) 0;
+  leverage = getD list (4 * i + 1) 0;
+  primary = getD list (4 * i + 2) 0;
+  close = getD list (4 * i + 3) 0;
+}
+
+-- ------------------------------------------------------------------ the number of each call
+
+-- the shape of a book's bytes is right
+abbrev pub InShape : Lent → Type 0
+InShape b = IsShape (length (b .records)) (length (b .times)) (length (b .prices))
+
+-- a call on stock i: 1 for the shape, 3 for a stock that there is not, and then those of the stock
+abbrev pub callTable : ℕ → Lent → List Number → List Number
+callTable i b own = bookRefusals (length (b .records)) (length (b .times)) (length (b .prices)) i own
+
+-- a setup: 1 for the shape and for a list that has not four numbers for each stock; 2 for E or a stock's setup out of range
+abbrev pub setupTable : ℕ → List ℕ → Lent → List Number
+setupTable end list b =
+    1 for (¬ InShape b or ¬ (length list ≡ 4 * length (b .records))) ∷
+    2 for (¬ IsEnd end or ((i : ℕ) × (i < length (b .records)) × ¬ IsSetup (setupIn list i))) ∷
+    []

@@ -1,0 +1,36 @@
+-- What the lines ahead of the messages say (document 01, "The day program").
+-- Assumes nothing.
+use Prim.Native.Nat.{ℕ, _+_, _*_}
+use mathlib.Core.Bool.{Bool, false, not}
+use mathlib.Core.List.{List, [], _∷_}
+use lib.Dec.{ltb, eqb}
+use lib.ListN.{getD, set}
+use Rattle.forms.specs.Choice.{if_then_else_, allOf}
+use Rattle.rules.specs.Numbers.{badEnd, badSetup}
+use Rattle.rules.specs.declared.Setup.{Setup}
+use Rattle.tape.specs.declared.Line.{Line}
+use Rattle.day.specs.declared.Contents.{Contents}
+
+-- what is given of more stocks than 8
+abbrev pub tooMany : Contents
+tooMany = record { good = false; stocks = 0; messages = 0; end = 0 }
+
+-- "`C stocks messages E`", of 1 to 8 stocks and an E that setup takes; 67 is the code of C
+unfoldable pub contentsOf : Line → Contents
+contentsOf line =
+    let stocks = getD (line .numbers) 0 0 in
+    let end = getD (line .numbers) 2 0 in
+    if ltb 8 stocks then tooMany else
+    record { good = allOf (eqb (line .letter) 67 ∷ ltb 0 stocks ∷ not (badEnd end) ∷ []); stocks = stocks; messages = getD (line .numbers) 1 0; end = end }
+
+-- "`S tier leverage primary close`"
+abbrev pub setupIn : List ℕ → Setup
+setupIn numbers = record { tier = getD numbers 0 0; leverage = getD numbers 1 0; primary = getD numbers 2 0; close = getD numbers 3 0 }
+
+-- such a line, of numbers that setup takes; 83 is the code of S
+unfoldable pub isSetup : Line → Bool
+isSetup line = allOf (eqb (line .letter) 83 ∷ not (badSetup (setupIn (line .numbers))) ∷ [])
+
+-- the list of setups, four numbers for each stock, with that of stock i entered
+unfoldable pub entered : List ℕ → ℕ → Setup → List ℕ
+entered list i u = set (set (set (set list (4 * i) (u .tier)) (4 * i + 1) (u .leverage)) (4 * i + 2) (u .primary)) (4 * i + 3) (u .close)

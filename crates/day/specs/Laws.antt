@@ -1,0 +1,129 @@
+-- What the day program's lines obey (document 01, "The day program"). Each field is a theorem: `laws` of proofs/Laws.antt proves the record.
+-- Assumes nothing.
+use Prim.Native.Nat.{ℕ, _+_, _*_, _≤_, _<_}
+use mathlib.Core.Bool.{true}
+use mathlib.Core.List.{List, [], _∷_, _++_}
+use mathlib.Core.Logic.{_↔_}
+use mathlib.Core.Path.{_≡_}
+use lib.ListN.{length, getD, drop}
+use lib.Seq.{sets}
+use Rattle.forms.specs.Words.{_or_, _and_, IsOneOf}
+use Rattle.rules.specs.Words.{IsEnd, IsSetup}
+use Rattle.rules.specs.declared.Answer.{Answer}
+use Rattle.rules.specs.declared.Message.{Message}
+use Rattle.rules.specs.declared.Message.the-variants.{Trade, Quote, Opening, Pause, Reopening, Closing}
+use Rattle.rules.specs.declared.Moment.{Moment}
+use Rattle.tape.specs.Lines.{IsLine, lineOf, Reads}
+use Rattle.tape.specs.Printing.{printed}
+use Rattle.tape.specs.declared.Line.{Line}
+use Rattle.day.specs.Flow.{Sees}
+use Rattle.day.specs.Spoken.{spokenOf, dayAt}
+use Rattle.day.specs.Contents.{contentsOf, setupIn, isSetup, entered}
+use Rattle.day.specs.Printed.{markOf, printedOf, placeOf, putOf}
+use Rattle.day.specs.declared.Spoken.the-variants.{Said, Nothing}
+use Rattle.day.specs.declared.flow.Flow.{Flow}
+use Rattle.day.specs.declared.flow.Seen.{Seen}
+
+-- ------------------------------------------------------------------ the lines of the input's block
+
+-- a line that stands there whole, with its line feed, is found, whatever follows
+abbrev pub LineFound : Type 0
+LineFound = (bytes text rest : List ℕ) (from to letter : ℕ) (words : List (List ℕ)) (r : Seen) → IsLine text letter words
+    → drop from bytes ≡ text ++ 10 ∷ rest → from + length text < to → Sees bytes from to r
+    → r .found ≡ true and r .line ≡ lineOf letter words and r .next ≡ from + length text + 1
+
+-- ------------------------------------------------------------------ the message of a line
+
+-- by letter, whose code stands behind the numbers: "letter, stock, time, and after these for T the price, for Q participant, bid and offer, for P the
+-- participant, for O, R and X participant and price"
+pub record Messages (stock time : ℕ) (rest : List ℕ) : Type 0 where
+  pub T-is : (price : ℕ) → spokenOf (stock ∷ time ∷ price ∷ rest) 84 ≡ Said (Trade time price)
+  pub Q-is : (participant bid offer : ℕ) → spokenOf (stock ∷ time ∷ participant ∷ bid ∷ offer ∷ rest) 81 ≡ Said (Quote time participant bid offer)
+  pub O-is : (participant price : ℕ) → spokenOf (stock ∷ time ∷ participant ∷ price ∷ rest) 79 ≡ Said (Opening time participant price)
+  pub P-is : (participant : ℕ) → spokenOf (stock ∷ time ∷ participant ∷ rest) 80 ≡ Said (Pause time participant)
+  pub R-is : (participant price : ℕ) → spokenOf (stock ∷ time ∷ participant ∷ price ∷ rest) 82 ≡ Said (Reopening time participant price)
+  pub X-is : (participant price : ℕ) → spokenOf (stock ∷ time ∷ participant ∷ price ∷ rest) 88 ≡ Said (Closing time participant price)
+
+-- no other letter begins a message: not C or S, and not 0, the letter of what cannot be read
+abbrev pub NoOther : Type 0
+NoOther = (numbers : List ℕ) (letter : ℕ) → ¬ IsOneOf letter (84 ∷ 81 ∷ 79 ∷ 80 ∷ 82 ∷ 88 ∷ []) → spokenOf numbers letter ≡ Nothing
+
+-- the letter, the stock and the time with which the day goes on
+abbrev pub AtMessage : Type 0
+AtMessage = (letter stock time last left : ℕ) (rest : List ℕ) (m : Message) (f : Flow)
+    → let d = dayAt (record { letter = letter; numbers = stock ∷ time ∷ rest }) m last left f in
+    d .letter ≡ letter and d .stock ≡ stock and d .time ≡ time
+
+-- whatever is read of `Q 0 2000 5 114900 115100` says the quote of participant 5 with this bid and this offer
+abbrev pub QuoteHeard : Type 0
+QuoteHeard = (r : Line)
+    → Reads (81 ∷ 32 ∷ 48 ∷ 32 ∷ 50 ∷ 48 ∷ 48 ∷ 48 ∷ 32 ∷ 53 ∷ 32 ∷ 49 ∷ 49 ∷ 52 ∷ 57 ∷ 48 ∷ 48 ∷ 32 ∷ 49 ∷ 49 ∷ 53 ∷ 49 ∷ 48 ∷ 48 ∷ []) r
+    → spokenOf (r .numbers) (r .letter) ≡ Said (Quote 2_000 5 114_900 115_100)
+
+-- ------------------------------------------------------------------ the lines ahead of the messages
+
+-- `C stocks messages E` is good where there are 1 to 8 stocks and E is in range; 67 is the code of C
+abbrev pub GoodContents : Type 0
+GoodContents = (letter stocks messages end : ℕ) (rest : List ℕ)
+    → (contentsOf (record { letter = letter; numbers = stocks ∷ messages ∷ end ∷ rest }) .good ≡ true)
+    ↔ (letter ≡ 67 and 1 ≤ stocks and stocks ≤ 8 and IsEnd end)
+
+-- and says these numbers
+abbrev pub SaysContents : Type 0
+SaysContents = (letter stocks messages end : ℕ) (rest : List ℕ) → stocks ≤ 8
+    → let c = contentsOf (record { letter = letter; numbers = stocks ∷ messages ∷ end ∷ rest }) in
+    c .stocks ≡ stocks and c .messages ≡ messages and c .end ≡ end
+
+-- `S tier leverage primary close` is a setup where these are in range; 83 is the code of S
+abbrev pub WhichSetup : Type 0
+WhichSetup = (letter tier leverage primary close : ℕ) (rest : List ℕ)
+    → (isSetup (record { letter = letter; numbers = tier ∷ leverage ∷ primary ∷ close ∷ rest }) ≡ true)
+    ↔ (letter ≡ 83 and IsSetup (record { tier = tier; leverage = leverage; primary = primary; close = close }))
+
+-- stock i has the places from 4 i on, which then hold its tier, leverage, primary and close; every other place is left as it was
+pub record Enters (list after : List ℕ) (i tier leverage primary close : ℕ) : Type 0 where
+  pub tier-first : getD after (4 * i) 0 ≡ tier
+  pub then-leverage : getD after (4 * i + 1) 0 ≡ leverage
+  pub then-primary : getD after (4 * i + 2) 0 ≡ primary
+  pub then-close : getD after (4 * i + 3) 0 ≡ close
+  pub others-stay : (j : ℕ) → j < 4 * i or 4 * i + 4 ≤ j → getD after j 0 ≡ getD list j 0
+  pub as-long : length after ≡ length list
+
+-- ------------------------------------------------------------------ what is printed
+
+-- "answer, state, reference, lower, upper, bid, flag, offer, flag"
+abbrev pub NineNumbers : Type 0
+NineNumbers = (number state reference lower upper bid bidFlag offer offerFlag : ℕ)
+    → printedOf (record {
+      number = number;
+      state = state;
+      reference = reference;
+      bands = record { lower = lower; upper = upper };
+      best = record { bid = record { price = bid; flag = bidFlag }; offer = record { price = offer; flag = offerFlag } };
+    })
+    ≡ (number ∷ state ∷ reference ∷ lower ∷ upper ∷ bid ∷ bidFlag ∷ offer ∷ offerFlag ∷ [])
+
+-- a block of 380 bytes or more always takes the whole line: behind what is still to be written, or from the front on
+abbrev pub LineIsPut : Type 0
+LineIsPut = (bytes : List ℕ) (at stock time letter : ℕ) (a : Answer) → 380 ≤ length bytes → at ≤ length bytes
+    → let text = printed stock time letter (printedOf a) in
+    let place = placeOf (length bytes) at in
+    (place ≡ at or place ≡ 0) and putOf bytes at stock time letter a ≡ record { to = place + length text; bytes = sets bytes place text }
+
+-- ------------------------------------------------------------------ the laws
+
+pub record Laws : Type 0 where
+  pub line-found : LineFound
+  pub messages : (stock time : ℕ) (rest : List ℕ) → Messages stock time rest
+  pub no-other : NoOther
+  pub at-message : AtMessage
+  pub quote-heard : QuoteHeard
+  pub good-contents : GoodContents
+  pub says-contents : SaysContents
+  pub which-setup : WhichSetup
+  pub enters : (list : List ℕ) (i tier leverage primary close : ℕ) (rest : List ℕ) → 4 * i + 4 ≤ length list
+      → Enters list (entered list i (setupIn (tier ∷ leverage ∷ primary ∷ close ∷ rest))) i tier leverage primary close
+  pub nine-numbers : NineNumbers
+  pub line-is-put : LineIsPut
+  -- a mark is a letter's code, and printed as it is
+  pub mark-stays : (m : Moment) → m .mark < 256 → markOf m ≡ m .mark

@@ -1,0 +1,147 @@
+#!/usr/bin/env python3
+"""Writes the walks of the functions that lend one record that is passed by value: crates/stock_day/proofs/lend/FUNCTION/Proof.antt.
+
+    let mut v = r;
+    let ANSWER = book::FUNCTION_one(&mut v, ..);
+    MADE { ANSWER, next: v }
+
+The parameters behind r are the callee's behind its record: two `&mut [u32]`, and a number or a message by value. whole.tpl
+has what is said of a function beside its MIR; the steps through the MIR are worked out here, over a context by name
+(ctx.py). Where a body in crates/stock_day/src/lend.rt changes, `rt mir stock_day` shows the MIR that the steps must follow.
+"""
+from lent import HERE, filled, struct_typed, used
+from part import MUTS, Params, nest, parted, rows_apart
+from ctx import Walk, sub
+
+PROOFS = HERE.parents[1] / "crates" / "stock_day" / "proofs" / "lend"
+
+FUNCTIONS = [
+    {"fn": "settle", "Answer": "Notice", "answer": "notice", "Made": "Settled", "params": ["mut", "mut", "u32"], "promise": "Settles x₃"},
+    {"fn": "tell", "Answer": "Answer", "answer": "answer", "Made": "Told", "params": ["mut", "mut", "message"], "promise": "Tells x₃"},
+]
+
+
+# ---------------------------------------------------------------- the walk
+
+
+def entered(w, ps, locals_):
+    w.front("owns")
+    w.fsplit("record", "owns")
+    w.drop()
+    rows_apart(w, ps)
+    w.add(f"enter ! C Λ code.function (valT h ∷ {' ∷ '.join(map(ps.value, ps.all))} ∷ []) _ $")
+    w.alloc(locals_)
+    w.passes(1, struct_typed("T", "h", "was"))
+    for k in ps.all:
+        w.passes(k + 1, ps.typed(k))
+    w.add("pass0 ! $")
+
+
+def arguments(w, ps, local):
+    """the address of the local record, and each lent array lent on; gives the local that each argument is in"""
+    w.set(f"_{local}", "of-opd ! " + w.load("_1"), struct_typed("T", "h", "was"))
+    w.set(f"_{local + 2}", w.addr_of(f"_{local}"), "(tt, tt)")
+    place = {k: f"_{k + 1}" for k in ps.all}
+    for k in MUTS:
+        pointer, lent = (f"_{local + 1 + 2 * k + i}" for i in (0, 1))
+        w.set(pointer, w.addr_in(f"_{k + 1}"), "(tt, tt)")
+        w.set(lent, w.agg(w.load(pointer), w.load(f"_{k + 1}", 1)), ps.typed(k))
+        place[k] = lent
+    return [f"_{local + 2}"] + [place[k] for k in ps.all]
+
+
+def lend(w, ps, a):
+    """the local is lent for a lifetime of the call, and what the callee asks is in front"""
+    w.lam("lft-new ! tt (λ ν.")
+    w.c = ["nu"] + w.c
+    w.front(f"_{a}")
+    b = f"l{sub(a)}"
+    w.use(1, ["lies"], f"‵ (mem T.the-row .lies h {b} 0)", f"cell-in 𝓤 H A W h {b} was")
+    w.use(1, ["lends"], f"later (some (λ (δ : GName). own₀ {b} ν δ ⊛ ‵ (flent (ν ∷ []) (Body (mem T.the-row) {b} 0 δ))))", f"lends-ref 𝓤 H A W T.the-row (named 0) (ν ∷ []) h {b} 0")
+    w.add("await ! tt $")
+    w.lam("pick ! (λ δ.")
+    w.split("own0", "lent")
+    w.front("own1", "own2")
+    w.join("own2")
+    w.front("nu", "toks")
+    w.join("alive")
+    w.front("alive", "own0", "own2")
+    w.use(3, ["pre"], f"raw (Step 𝓤 H A at-mem run .pre (to-step {b} ν δ))", f"goes-step {b} ν δ")
+    w.note()
+
+
+def called(w, ps, a, arguments_):
+    """the call is made; what it ensures is known as e, the last lists' lengths as e₁ and e₂, and its result is in the local"""
+    b = f"l{sub(a)}"
+    w.lam(f"calls-at ! fm (Step 𝓤 H A at-mem run) known (to-step {b} ν δ) {w.opds(*map(w.load, arguments_))} (λ v.")
+    lifetimes = nest(["ν ∷ []"] + [f"κ{sub(k)}" for k in ps.slices])
+    w.use(1, ["post"], f"later (some (λ (r : {ps.answer}). ((‵ (flft (ν ∷ []) fullShare) ⊛ tokens) ⊛ ‵ (N.the-row .own r (v ∷ []))) ⊛ raw (ensured 𝓤 H A g.ended (g.clauses 𝓤 H A at-mem run) {lifetimes} (x′ {b} δ) tt r)))", "id⊢ 𝓤 _")
+    w.add("await ! tt $")
+    w.lam("pick ! (λ r.")
+    w.split("result", "ensured")
+    w.front("ensured")
+    done = "Done r (zs .0) (zs .1 .0) (zs .1 .1 .0)"
+    w.use(1, ["ensured"], f"some (λ (zs : Ends). ‵ (lasts g.ended {lifetimes} (x′ {b} δ) zs) ⊛ raw (fact 𝓤 ({done})))", "id⊢ 𝓤 _")
+    w.ensures("zs", done, "e")
+    w.fsplit("final0", "lasts")
+    w.front("lasts")
+    for k in MUTS:
+        w.last_list(k, f"e{sub(k)}")
+    w.drop()
+    w.front("result")
+    w.split("alive", "given")
+    w.struct_given("N", "is", "isr", f"_{a + 1}", f"l{sub(a + 1)}")
+
+
+def back(w, a):
+    """the lifetime is ended, and the local comes back"""
+    b = f"l{sub(a)}"
+    w.front("alive")
+    w.split("nu", "toks")
+    w.add("lft-end ! tt $")
+    w.put(1, "dead")
+    w.front("dead", "lent", "final0")
+    w.use(3, ["lies"], f"later (‵ (mem T.the-row .lies (zs .0) {b} 0))", f"ref-back 𝓤 H A W T.the-row (ν ∷ []) δ (zs .0) {b} 0")
+    w.add("await ! tt $")
+    w.use(1, [f"_{a}"], f"given (IsT (zs .0)) (‵ (fat fullShare T′.mir {b} 0 (valT (zs .0))))", f"cell-out 𝓤 H A W (zs .0) {b}")
+    w.lam("learn ! (λ isz.")
+    w.note()
+
+
+def walk(ps):
+    w = Walk(["toks", "owns"])
+    w.let_go = "let-go"
+    a = len(ps.all) + 2  # the local record; behind it the answer, the record's address, two locals for each lent array, and the copy
+    copy = a + 3 + 2 * len(MUTS)
+    entered(w, ps, copy + 1)
+    arguments_ = arguments(w, ps, a)
+    lend(w, ps, a)
+    called(w, ps, a, arguments_)
+    back(w, a)
+    w.set(f"_{copy}", "of-opd ! " + w.load(f"_{a}"), struct_typed("T", "(zs .0)", "isz"))
+    w.set("_0", w.agg(w.load(f"_{a + 1}"), w.load(f"_{copy}")), struct_typed("D", "(both r (zs .0))", "(is-both r (zs .0) isr isz)"))
+    w.returns("toks", *[f"final{k}" for k in MUTS])
+    w.add("by ! (exits r (zs .0) (zs .1 .0) (zs .1 .1 .0) isr isz e e₁ e₂)" + ")" * w.close)
+    return w
+
+
+# ---------------------------------------------------------------- the words of the template
+
+
+def words(ps):
+    splits, joins = parted(ps)
+    v = ps.by_value(3)
+    return {
+        "Value": v["Value"], "row": v["row"], "vals": v["vals"], "tells": v["tells"], "value": ps.value(3), "splits": splits, "joins": joins,
+        "rejoins": ps.joined(ps.slices)[0], "walk": walk(ps).text(),
+    }
+
+
+if __name__ == "__main__":
+    template = (HERE / "whole.tpl").read_text()
+    for p in FUNCTIONS:
+        ps = Params(p["params"])
+        ps.answer = p["Answer"]
+        proof = PROOFS / p["fn"] / "Proof.antt"
+        proof.parent.mkdir(parents=True, exist_ok=True)
+        proof.write_text(used(filled(template, {**p, **words(ps)})))
