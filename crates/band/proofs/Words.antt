@@ -11,7 +11,7 @@ use lib.Dec.{ltb, leb, eqb}
 use Rattle.forms.specs.Choice.{if_then_else_}
 use Rattle.forms.specs.Words.{Gives}
 use Rattle.forms.proofs.Choice.{if-true, if-false, if-arms}
-use Rattle.forms.proofs.Decides.{Decides, either-way, is-true, is-false, by-le, by-lt, words, choice, take, skip, exactly}
+use Rattle.forms.proofs.Decides.{Decides, either-way, is-true, exactly-where, is-false, by-le, by-lt, words, choice, take, skip, exactly}
 use Rattle.band.specs.Band.{small, percentOf, factorOf, spreadOf, cent, lowerOf, upperOf, bandsOf, meanOf, distance, movesOf}
 use Rattle.band.specs.Words.{percents, factors, spreads, NearestCent, IsLower, IsUpper, AreBands, IsMean, OnePercent}
 use Rattle.band.specs.declared.Limits.{Limits}
@@ -151,7 +151,7 @@ moves-decides m c n d = record {
 }
 
 pub moves-is : MovesIs
-moves-is m c n d = (moves-decides m c n d .holds, is-true _ (moves-decides m c n d))
+moves-is m c n d = exactly-where (moves-decides m c n d)
 
 -- ------------------------------------------------------------------ another fraction for the same number
 

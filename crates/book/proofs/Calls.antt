@@ -60,12 +60,14 @@ module _ (i : ℕ) (x : Bytes) (b : Lent) (q : shaped x ≡ true) (h : Has i b) 
     part-put-other i (x .prices) (b .prices) (shaped-prices x q) (h .prices) j other,
   )
 
-  same-numbers : (j : ℕ) → callNumber j (withBytes i x b) ≡ callNumber j b
-  same-numbers j = simp (
-    length-set,
-    length-put i (x .times) (b .times) (shaped-times x q) (h .times),
-    length-put i (x .prices) (b .prices) (shaped-prices x q) (h .prices),
-  )
+  same-stocks : length (withBytes i x b .records) ≡ length (b .records)
+  same-stocks = length-set (b .records) i (x .kept)
+
+  same-times : length (withBytes i x b .times) ≡ length (b .times)
+  same-times = length-put i (x .times) (b .times) (shaped-times x q) (h .times)
+
+  same-prices : length (withBytes i x b .prices) ≡ length (b .prices)
+  same-prices = length-put i (x .prices) (b .prices) (shaped-prices x q) (h .prices)
 
 -- bytes written as they were
 as-it-was : (i : ℕ) (b : Lent) → withBytes i (bytesOf i b) b ≡ b
@@ -106,10 +108,16 @@ module _ {A : Type 0} (i : ℕ) (step : Bytes → Outcome A) (beside : ℕ → A
         done z =
             let h = let-through i b z in
             let q = same ∙ bytes-shaped i b h in
-            record { own = λ _. written i next b q h; others = of-others i next b q h; numbers = same-numbers i next b q h }
+            record {
+              own = λ _. written i next b q h;
+              others = of-others i next b q h;
+              stocks = same-stocks i next b q h;
+              times = same-times i next b q h;
+              prices = same-prices i next b q h;
+            }
 
         left : (callNumber i b ≡ 0 → ⊥) → Touched i next b b
-        left z = record { own = λ y. absurd (z y); others = λ j other. refl; numbers = λ j. refl }
+        left z = record { own = λ y. absurd (z y); others = λ j other. refl; stocks = refl; times = refl; prices = refl }
 
 -- ------------------------------------------------------------------ telling and settling
 

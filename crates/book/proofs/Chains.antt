@@ -166,7 +166,7 @@ pub demand2 : Demand2 ours
 demand2 = record {
   setup-number = λ end list b b′ a e. subst (λ (x : Answer). Gives (setupTable end list b) (x .number)) (sym (answered end list b b′ a e)) (number-is end list b);
   setup-zeros = λ end list b b′ a e. nothing-shown _ a (answered end list b b′ a e);
-  setup-refused = laws .set-up-refused;
+  setup-leaves = laws .set-up-refused;
   from-setup = λ end list b₀ b b′ a cs e z k.
       let s = started end list b₀ (number-0 end list b₀ b a e z) in
       follows end (book end (setupsOf list)) (fresh-fits end (setupsOf list)) (simp length-map (s .some)) (simp length-map (s .few)) cs b′

@@ -8,12 +8,13 @@ use Rattle.book.specs.Setup.{setting}
 use Rattle.book.specs.Laws.{Laws}
 use Rattle.book.proofs.Parts.{part-put, part-put-other, put-part, length-put}
 use Rattle.book.proofs.Calls.{let-through, written, of-others, leaves, told-refused, settled-refused, told-touches, settled-touches}
-use Rattle.book.proofs.Meaning.{part-is, one-meaning, told-by-the-rules, settled-by-the-rules, read-by-the-rules}
+use Rattle.book.proofs.Meaning.{lent-is, part-is, one-meaning, no-notice-is, told-by-the-rules, settled-by-the-rules, read-by-the-rules}
 use Rattle.book.proofs.Layouts.{layout-is}
 use Rattle.book.proofs.SettingUp as setting-up
 
 pub laws : Laws
 laws = record {
+  lent-is = lent-is;
   part-is = part-is;
   part-put = λ i new xs f. part-put i new xs (f .places) (f .room);
   part-put-other = λ i new xs f. part-put-other i new xs (f .places) (f .room);
@@ -24,6 +25,7 @@ laws = record {
   bytes-of-others = of-others;
   one-meaning = one-meaning;
   layout-is = layout-is;
+  no-notice-is = no-notice-is;
   told-by-the-rules = told-by-the-rules;
   settled-by-the-rules = settled-by-the-rules;
   read-by-the-rules = read-by-the-rules;

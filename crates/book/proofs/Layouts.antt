@@ -158,7 +158,7 @@ layout-is hs all = record {
       let h = getD hs i (blank 0) in
       let is = bytes-of hs all i l (blank 0) in
       let behind-it : length (h .window) ≤ j = subst (λ (x : Bytes). x .kept .count ≤ j) is c in (
-        sym (sym (part-is i (layout hs .times) j k) ∙ ap (λ (x : Bytes). getD (x .times) j 0) is ∙ behind (map (λ t. t .at) (h .window)) j (simp length-map behind-it) k),
-        sym (sym (part-is i (layout hs .prices) j k) ∙ ap (λ (x : Bytes). getD (x .prices) j 0) is ∙ behind (map (λ t. t .price) (h .window)) j (simp length-map behind-it) k),
+        sym (sym (part-is i (layout hs .times) .1 j k) ∙ ap (λ (x : Bytes). getD (x .times) j 0) is ∙ behind (map (λ t. t .at) (h .window)) j (simp length-map behind-it) k),
+        sym (sym (part-is i (layout hs .prices) .1 j k) ∙ ap (λ (x : Bytes). getD (x .prices) j 0) is ∙ behind (map (λ t. t .price) (h .window)) j (simp length-map behind-it) k),
       );
 }

@@ -15,22 +15,25 @@ use Rattle.forms.proofs.Decides.{take, skip}
 use Rattle.rules.specs.Stock.{Trade, Whole}
 use Rattle.rules.specs.Numbers.{zeros, afterTelling, afterSettling, tellAnswer, settleAnswer, readAnswer}
 use Rattle.rules.specs.declared.Message.{Message}
-use Rattle.rules.proofs.Answers.{Called, wrong-shape, no-stock, there, called}
+use Rattle.rules.proofs.Answers.{Called, wrong-shape, no-stock, there, called, nothing-shown}
 use Rattle.stock.specs.View.{Bytes, view, shaped, Outcome, telling, settling}
 use Rattle.stock.proofs.Laws as stock
 use Rattle.book.specs.Lent.{Lent, part, bytesOf, Given, callNumber, calling, noNotice, readingIn}
 use Rattle.book.specs.Words.{recordAt, noTrade, Means, InShape, callTable}
-use Rattle.book.specs.Laws.{PartIs, OneMeaning, Touched, AnsweredBy, ToldByTheRules, SettledByTheRules, ReadByTheRules}
+use Rattle.book.specs.Laws.{LentIs, PartIs, OneMeaning, Touched, AnsweredBy, NoNoticeIs, ToldByTheRules, SettledByTheRules, ReadByTheRules}
 use Rattle.book.proofs.Calls.{let-through, bytes-shaped, told-touches, settled-touches}
 
 -- ------------------------------------------------------------------ the places of a stock
 
-pub part-is : PartIs
-part-is i xs j h = getD-take 512 (drop (512 * i) xs) j 0 h ∙ getD-drop (512 * i) xs j 0
+pub lent-is : LentIs
+lent-is records times prices = (refl, (refl, refl))
 
--- it has no more of them
+pub part-is : PartIs
+part-is i xs = (simp length-take (omega arith), λ j h. getD-take 512 (drop (512 * i) xs) j 0 h ∙ getD-drop (512 * i) xs j 0)
+
+-- behind them nothing is read
 past-part : (i : ℕ) (xs : List ℕ) (j : ℕ) → 512 ≤ j → getD (part i xs) j 0 ≡ 0
-past-part i xs j h = List·getD-eq-default (part i xs) 0 (simp length-take (omega arith))
+past-part i xs j h = let few = part-is i xs .0 in List·getD-eq-default (part i xs) 0 (omega (arith, few, h))
 
 -- ------------------------------------------------------------------ what is read of them
 
@@ -49,7 +52,7 @@ module _ (i : ℕ) (b : Lent) where
     count = counted;
     held = λ j l h.
         let t = read-at j (omega (arith, l, counted)) in
-        (ap (λ (t : Trade). t .at) t ∙ part-is i (b .times) j h, ap (λ (t : Trade). t .price) t ∙ part-is i (b .prices) j h);
+        (ap (λ (t : Trade). t .at) t ∙ part-is i (b .times) .1 j h, ap (λ (t : Trade). t .price) t ∙ part-is i (b .prices) .1 j h);
     beyond = λ j l h. read-at j (omega (arith, l, counted)) ∙ rw (past-part i (b .times) j h, past-part i (b .prices) j h);
   }
 
@@ -127,6 +130,9 @@ let-in i b s l = go (called (length (b .records)) (length (b .times)) (length (b
 
 in-parts : (i : ℕ) (b : Lent) → callNumber i b ≡ 0 → shaped (bytesOf i b) ≡ true
 in-parts i b e = bytes-shaped i b (let-through i b e)
+
+pub no-notice-is : NoNoticeIs
+no-notice-is number = (refl, (nothing-shown number (zeros number) refl, (refl, refl)))
 
 -- ------------------------------------------------------------------ telling and settling
 

@@ -62,12 +62,13 @@ module _ (end : ℕ) (list : List ℕ) (b b′ : Lent) (r : Answer) (e : SetsUp 
 
 pub by-the-rules : SetUpByTheRules
 unfolding setupNumber setsUp setupAnswer
-by-the-rules end list b b′ r e k =
-    answered end list b b′ r e ∙ ap zeros (sym (miss _ 1 _ _ (eq-not (length list) _ k) refl))
+by-the-rules end list b b′ r e stocks k =
+    let four : length list ≡ 4 * length (setupsOf list) = k ∙ ap (λ n. 4 * n) (sym (setups-length stocks list k)) in
+    answered end list b b′ r e ∙ ap zeros (sym (miss _ 1 _ _ (eq-not (length list) _ four) refl))
 
 pub one : SetUpOne
 unfolding setupNumber
-one end list b b′ r e k = answered end list b b′ r e ∙ ap zeros (sym (hit _ 1 _ (ne-not (length list) _ k)))
+one end list b b′ r e k = answered end list b b′ r e ∙ ap zeros (sym (hit _ 1 _ (ne-not (length list) _ (λ four. k (length (setupsOf list), four)))))
 
 -- ------------------------------------------------------------------ the list, entry by entry
 

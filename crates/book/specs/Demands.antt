@@ -68,6 +68,10 @@ calls (was-read i a ∷ cs) = calls cs
 abbrev pub SetupNumber : Family → Type 0
 SetupNumber 𝓕 = (end : ℕ) (list : List ℕ) (b b′ : Lent) (a : Answer) → 𝓕 .SetUp end list b a b′ → Gives (setupTable end list b) (a .number)
 
+-- A refused setup leaves every byte.
+abbrev pub SetupLeaves : Family → Type 0
+SetupLeaves 𝓕 = (end : ℕ) (list : List ℕ) (b b′ : Lent) (a : Answer) → 𝓕 .SetUp end list b a b′ → ¬ (a .number ≡ 0) → b′ ≡ b
+
 -- For any bytes:
 pub record Demand1 (𝓕 : Family) : Type 0 where
   -- every call is answered,
@@ -88,7 +92,7 @@ pub record Demand1 (𝓕 : Family) : Type 0 where
   pub settle-determined : (i time : ℕ) (b : Lent) → Determines (λ (x : Given Notice). 𝓕 .Settle i time b (x .answer) (x .book))
   pub read-determined : (i : ℕ) (b : Lent) → Determines (λ (a : Answer). 𝓕 .Read i b a)
   -- every number but 0 leaves every byte, and reading leaves them always
-  pub setup-leaves : (end : ℕ) (list : List ℕ) (b b′ : Lent) (a : Answer) → 𝓕 .SetUp end list b a b′ → ¬ (a .number ≡ 0) → b′ ≡ b
+  pub setup-leaves : SetupLeaves 𝓕
   pub tell-leaves : (i : ℕ) (m : Message) (b : Lent) (a : Answer) (b′ : Lent) → 𝓕 .Tell i m b a b′ → ¬ (a .number ≡ 0) → b′ ≡ b
   pub settle-leaves : (i time : ℕ) (b : Lent) (a : Notice) (b′ : Lent) → 𝓕 .Settle i time b a b′ → ¬ (a .answer .number ≡ 0) → b′ ≡ b
 
@@ -110,7 +114,7 @@ Answered end hs (was-read i a ∷ cs) = (a ≡ bookReads end hs (512 * length hs
 pub record Demand2 (𝓕 : Family) : Type 0 where
   pub setup-number : SetupNumber 𝓕
   pub setup-zeros : (end : ℕ) (list : List ℕ) (b b′ : Lent) (a : Answer) → 𝓕 .SetUp end list b a b′ → ShowsNothing a
-  pub setup-refused : (end : ℕ) (list : List ℕ) (b b′ : Lent) (a : Answer) → 𝓕 .SetUp end list b a b′ → ¬ (a .number ≡ 0) → b′ ≡ b
+  pub setup-leaves : SetupLeaves 𝓕
   pub from-setup : (end : ℕ) (list : List ℕ) (b₀ b b′ : Lent) (a : Answer) (cs : List Made) → 𝓕 .SetUp end list b₀ a b → a .number ≡ 0
       → Chain 𝓕 b cs b′
       → Answered end (book end (setupsOf list)) cs × (b′ ≡ layout (run machine (blank end) (book end (setupsOf list)) (calls cs)))
@@ -192,7 +196,7 @@ acknowledging = record {
 
 -- ------------------------------------------------------------------ what follows an accepted setup
 
--- Number 1 is never given by calls on the book, whatever they are.
+-- Telling, settling and reading never give number 1.
 abbrev pub Never1 : List Made → Type 0
 Never1 [] = Unit {0}
 Never1 (refused-setup end list a ∷ cs) = Never1 cs
@@ -200,7 +204,7 @@ Never1 (told i m a ∷ cs) = ¬ (a .number ≡ 1) × Never1 cs
 Never1 (settled i time a ∷ cs) = ¬ (a .answer .number ≡ 1) × Never1 cs
 Never1 (was-read i a ∷ cs) = ¬ (a .number ≡ 1) × Never1 cs
 
--- So of every family that meets demand 2, and every unused place is 0.
+-- After an accepted setup, in every family that meets demand 2: number 1 is never given, and every unused place is 0.
 abbrev pub AfterSetup : Family → Type 0
 AfterSetup 𝓕 = (end : ℕ) (list : List ℕ) (b₀ b b′ : Lent) (a : Answer) (cs : List Made) → 𝓕 .SetUp end list b₀ a b → a .number ≡ 0
     → Chain 𝓕 b cs b′

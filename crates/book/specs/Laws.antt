@@ -7,24 +7,32 @@ use mathlib.Core.Logic.{_↔_}
 use mathlib.Core.Path.{_≡_}
 use lib.ListN.{length, getD}
 use Rattle.forms.specs.Promises.{Determines}
+use Rattle.forms.specs.Words.{_and_}
 use Rattle.rules.specs.Stock.{Whole}
 use Rattle.rules.specs.Machine.{Every}
 use Rattle.rules.specs.Book.{noSetup}
 use Rattle.rules.specs.Numbers.{zeros, fresh, afterTelling, afterSettling, tellAnswer, settleAnswer, readAnswer, setupAnswer}
+use Rattle.rules.specs.Words.{ShowsNothing}
 use Rattle.rules.specs.declared.Answer.{Answer}
 use Rattle.rules.specs.declared.Message.{Message}
 use Rattle.rules.specs.declared.Notice.{Notice}
 use Rattle.stock.specs.View.{Bytes, view, shaped, Outcome, telling, settling}
-use Rattle.book.specs.Lent.{Lent, part, put, bytesOf, withBytes, Given, callNumber, calling, noNotice, TellsIn, SettlesIn, readingIn}
+use Rattle.stock.specs.declared.Record.{Record}
+use Rattle.book.specs.Lent.{Lent, lent, part, put, bytesOf, withBytes, Given, callNumber, calling, noNotice, TellsIn, SettlesIn, readingIn}
 use Rattle.book.specs.Words.{Means, UnusedAre0, LaidOut, setupIn, InShape}
 use Rattle.book.specs.Setup.{setupsOf, SetsUp}
 use Rattle.book.specs.Layout.{layout}
 
--- ------------------------------------------------------------------ the parts of an array
+-- ------------------------------------------------------------------ the parts of a book, and of an array
 
--- place j of stock i is entry 512 i + j
+-- a book put together: each part is what was given for it
+abbrev pub LentIs : Type 0
+LentIs = (records : List Record) (times prices : List ℕ)
+    → let b = lent records times prices in b .records ≡ records and b .times ≡ times and b .prices ≡ prices
+
+-- stock i has at most 512 places, and place j is entry 512 i + j
 abbrev pub PartIs : Type 0
-PartIs = (i : ℕ) (xs : List ℕ) (j : ℕ) → j < 512 → getD (part i xs) j 0 ≡ getD xs (512 * i + j) 0
+PartIs = (i : ℕ) (xs : List ℕ) → (length (part i xs) ≤ 512) × ((j : ℕ) → j < 512 → getD (part i xs) j 0 ≡ getD xs (512 * i + j) 0)
 
 -- a part of 512 places that is put where there is room for it
 pub record Fits (i : ℕ) (new xs : List ℕ) : Type 0 where
@@ -73,6 +81,11 @@ pub record AnsweredBy {A : Type 0} (i : ℕ) (b : Lent) (r own : A) (beside : �
   pub no-shape : ¬ InShape b → r ≡ beside 1
   pub no-stock : InShape b → length (b .records) ≤ i → r ≡ beside 3
 
+-- a number with zeros beside it, and no moment
+abbrev pub NoNoticeIs : Type 0
+NoNoticeIs = (number : ℕ) → let n = noNotice number in
+    n .answer .number ≡ number and ShowsNothing (n .answer) and n .moment .mark ≡ 0 and n .moment .time ≡ 0
+
 -- the answer is the rules' of what the bytes mean, and then they mean what the rules leave
 abbrev pub ToldByTheRules : Type 0
 ToldByTheRules = (i : ℕ) (m : Message) (b : Lent) (r : Answer) (b′ : Lent) (h : Whole) → TellsIn i m b r b′ → Means i b h
@@ -101,7 +114,9 @@ SettledRefused = (i time : ℕ) (b : Lent) (r : Notice) (b′ : Lent) → Settle
 pub record Touched (i : ℕ) (next : Bytes) (b b′ : Lent) : Type 0 where
   pub own : callNumber i b ≡ 0 → bytesOf i b′ ≡ next
   pub others : (j : ℕ) → ¬ (j ≡ i) → bytesOf j b′ ≡ bytesOf j b
-  pub numbers : (j : ℕ) → callNumber j b′ ≡ callNumber j b
+  pub stocks : length (b′ .records) ≡ length (b .records)
+  pub times : length (b′ .times) ≡ length (b .times)
+  pub prices : length (b′ .prices) ≡ length (b .prices)
 
 abbrev pub ToldTouches : Type 0
 ToldTouches = (i : ℕ) (m : Message) (b : Lent) (r : Answer) (b′ : Lent) → TellsIn i m b r b′
@@ -118,14 +133,15 @@ abbrev pub SetupsAre : Type 0
 SetupsAre = (list : List ℕ) (stocks : ℕ) → length list ≡ 4 * stocks
     → (length (setupsOf list) ≡ stocks) × ((i : ℕ) → i < stocks → getD (setupsOf list) i noSetup ≡ setupIn list i)
 
--- of a list that has four numbers for each setup: the rules' answer
+-- of a list that has four numbers for each of some stocks: the rules' answer
 abbrev pub SetUpByTheRules : Type 0
-SetUpByTheRules = (end : ℕ) (list : List ℕ) (b b′ : Lent) (r : Answer) → SetsUp end list b r b′ → length list ≡ 4 * length (setupsOf list)
+SetUpByTheRules = (end : ℕ) (list : List ℕ) (b b′ : Lent) (r : Answer) → SetsUp end list b r b′ → (stocks : ℕ) → length list ≡ 4 * stocks
     → r ≡ setupAnswer (length (b .records)) (length (b .times)) (length (b .prices)) end (setupsOf list)
 
 -- of another list: 1 with zeros beside it
 abbrev pub SetUpOne : Type 0
-SetUpOne = (end : ℕ) (list : List ℕ) (b b′ : Lent) (r : Answer) → SetsUp end list b r b′ → ¬ (length list ≡ 4 * length (setupsOf list)) → r ≡ zeros 1
+SetUpOne = (end : ℕ) (list : List ℕ) (b b′ : Lent) (r : Answer) → SetsUp end list b r b′ → ¬ ((stocks : ℕ) × (length list ≡ 4 * stocks))
+    → r ≡ zeros 1
 
 -- where it is done, there are as many stocks as before, each as its own four numbers start it, and every place is 0
 abbrev pub SetUpStarts : Type 0
@@ -140,6 +156,7 @@ SetUpRefused = (end : ℕ) (list : List ℕ) (b b′ : Lent) (r : Answer) → Se
 -- ------------------------------------------------------------------ all of them
 
 pub record Laws : Type 1 where
+  pub lent-is : LentIs
   pub part-is : PartIs
   pub part-put : PartPut
   pub part-put-other : PartPutOther
@@ -150,6 +167,7 @@ pub record Laws : Type 1 where
   pub bytes-of-others : BytesOfOthers
   pub one-meaning : OneMeaning
   pub layout-is : LayoutIs
+  pub no-notice-is : NoNoticeIs
   pub told-by-the-rules : ToldByTheRules
   pub settled-by-the-rules : SettledByTheRules
   pub read-by-the-rules : ReadByTheRules

@@ -24,12 +24,12 @@ contentsOf line =
     record { good = allOf (eqb (line .letter) 67 ∷ ltb 0 stocks ∷ not (badEnd end) ∷ []); stocks = stocks; messages = getD (line .numbers) 1 0; end = end }
 
 -- "`S tier leverage primary close`"
-abbrev pub setupIn : List ℕ → Setup
-setupIn numbers = record { tier = getD numbers 0 0; leverage = getD numbers 1 0; primary = getD numbers 2 0; close = getD numbers 3 0 }
+abbrev pub setupOf : List ℕ → Setup
+setupOf numbers = record { tier = getD numbers 0 0; leverage = getD numbers 1 0; primary = getD numbers 2 0; close = getD numbers 3 0 }
 
 -- such a line, of numbers that setup takes; 83 is the code of S
 unfoldable pub isSetup : Line → Bool
-isSetup line = allOf (eqb (line .letter) 83 ∷ not (badSetup (setupIn (line .numbers))) ∷ [])
+isSetup line = allOf (eqb (line .letter) 83 ∷ not (badSetup (setupOf (line .numbers))) ∷ [])
 
 -- the list of setups, four numbers for each stock, with that of stock i entered
 unfoldable pub entered : List ℕ → ℕ → Setup → List ℕ

@@ -2,7 +2,7 @@
 -- Assumes nothing.
 use Prim.Native.Nat.{ℕ, _+_, _-_, _≤_, _<_, min}
 use mathlib.Core.Bool.{true, false, _&&_}
-use mathlib.Core.List.{List}
+use mathlib.Core.List.{List, _++_}
 use mathlib.Core.Path.{_≡_}
 use lib.ListN.{take, drop}
 use Rattle.tape.specs.declared.Line.{Line}
@@ -32,12 +32,17 @@ reachOf from to = min (from + 57) to
 abbrev pub between : List ℕ → ℕ → ℕ → List ℕ
 between bytes from to = take (to - from) (drop from bytes)
 
--- what is found from a place on: the line that ends at the first line feed, and the place behind that; nothing where it is out of reach
+-- what is found from a place on: the line that ends at the first line feed, and the place behind that; where no line feed is in reach, an unread line
+-- and the same place
 abbrev pub Sees : List ℕ → ℕ → ℕ → Seen → Type 0
 Sees bytes from to r =
     let end = from + toFeed (between bytes from (reachOf from to)) in
     (r .found ≡ true → (end < reachOf from to) × Reads (between bytes from end) (r .line) × (r .next ≡ end + 1))
-    × (r .found ≡ false → (reachOf from to ≤ end) × (r .next ≡ from))
+    × (r .found ≡ false → (reachOf from to ≤ end) × (r .line ≡ unread) × (r .next ≡ from))
+
+-- the bytes with so many of them, from a place on, moved to the front; those behind stay
+abbrev pub lowered : List ℕ → ℕ → ℕ → List ℕ
+lowered bytes gone keep = take keep (drop gone bytes) ++ drop keep bytes
 
 -- a line that was found, and the flow behind it
 abbrev pub foundOf : Line → ℕ → Flow → Taken

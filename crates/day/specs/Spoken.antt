@@ -1,6 +1,7 @@
 -- Which message a line is (document 01, "The day program").
 -- Assumes nothing.
 use Prim.Native.Nat.{ℕ}
+use mathlib.Core.Bool.{false}
 use mathlib.Core.List.{List}
 use lib.Dec.{eqb}
 use lib.ListN.{getD}
@@ -31,3 +32,7 @@ spokenOf numbers letter =
 abbrev pub dayAt : Line → Message → ℕ → ℕ → Flow → Day
 dayAt line message last left flow =
     record { letter = line .letter; stock = getD (line .numbers) 0 0; time = getD (line .numbers) 1 0; message = message; going = flow .live; last = last; left = left; flow = flow }
+
+-- the day behind its last line: nothing is left of it, and it does not go on
+abbrev pub endedOf : ℕ → Flow → Day
+endedOf last flow = record { letter = 0; stock = 0; time = 0; message = Pause 0 0; going = false; last = last; left = 0; flow = flow }

@@ -4,7 +4,7 @@ ghost use Prim.Native.Nat.{_+_, _≤_};
 ghost use mathlib.Core.Path.{_≡_};
 ghost use lib.ListN.{length};
 ghost use Rattle.tape.specs.Lines.{unread};
-ghost use Rattle.day.specs.Flow.{Within, Same, reachOf, Sees, foundOf, missingOf};
+ghost use Rattle.day.specs.Flow.{Within, Same, reachOf, Sees, lowered, foundOf, missingOf};
 ghost use Rattle.day.specs.Printed.{printedOf, placeOf, putOf};
 use rules::Answer;
 use tape::Line;
@@ -85,6 +85,7 @@ fn look(input: &[u8], from: usize, to: usize) -> Seen
 // Moves `keep` bytes down by `gone`.
 fn lower(bytes: &mut [u8], gone: usize, keep: usize)
     requires { ⌜ gone + keep ≤ length (now bytes) ⌝ }
+    ensures { λ _. ⌜ now (bytes .exit) ≡ lowered (now (bytes .entry)) gone keep ⌝ }
 {
     for i in 0..keep {
         bytes[i] = bytes[gone + i];

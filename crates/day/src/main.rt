@@ -6,8 +6,8 @@ ghost use mathlib.Core.Path.{_≡_};
 ghost use Prim.Native.Nat.{_≤_, _<_};
 ghost use lib.ListN.{length};
 ghost use Rattle.day.specs.Flow.{Within, Same, Underway, withFlow};
-ghost use Rattle.day.specs.Spoken.{spokenOf, dayAt};
-ghost use Rattle.day.specs.Contents.{contentsOf, setupIn, isSetup, entered};
+ghost use Rattle.day.specs.Spoken.{spokenOf, dayAt, endedOf};
+ghost use Rattle.day.specs.Contents.{contentsOf, setupOf, isSetup, entered};
 ghost use Rattle.day.specs.Printed.{markOf};
 use flow::Flow;
 use rules::Message;
@@ -96,7 +96,7 @@ fn is_setup(line: Line) -> bool
 // Enters the setup of stock i into the list.
 fn enter(list: &mut [u32], i: u32, line: Line)
     requires { ⌜ (i < 8) × (length (now list) ≡ 32) ⌝ }
-    ensures { λ _. ⌜ now (list .exit) ≡ entered (now (list .entry)) i (setupIn (line .numbers)) ⌝ }
+    ensures { λ _. ⌜ now (list .exit) ≡ entered (now (list .entry)) i (setupOf (line .numbers)) ⌝ }
 {
     let numbers = line.numbers;
     let at = 4 * i as usize;
@@ -169,6 +169,7 @@ fn bad(output: &[u8], f: Flow, line: u64)
 // The day behind its last line.
 fn ended(last: u64, flow: Flow) -> Day
     ensures { λ r. ⌜ (r .last ≡ last) × (r .left ≡ 0) × Same (r .flow) flow ⌝ }
+    ensures { λ r. ⌜ r ≡ endedOf last flow ⌝ }
 {
     let message = Message::Pause {
         time: 0,

@@ -29,6 +29,10 @@ pub is-false : (b : Bool) {P : Type 0} → Decides b P → ¬ P → b ≡ false
 is-false true d n = absurd (n (d .holds refl))
 is-false false d n = refl
 
+-- so the test is true exactly where the words hold
+pub exactly-where : {b : Bool} {P : Type 0} → Decides b P → (b ≡ true) ↔ P
+exactly-where d = (d .holds, is-true _ d)
+
 -- the words hold or do not
 pub either-way : (b : Bool) {P : Type 0} → Decides b P → P ⊎ (¬ P)
 either-way true d = inl (d .holds refl)

@@ -133,7 +133,7 @@ module _ {A : Type 0} (zero : ℕ → A) (it : A) (numberOf : A → ℕ) (its : 
       go (no-stock _ _ e) = if-false _ _ _ (ne-eqb (first (callChecks stocks times prices i)) 0 (λ z. omega arith))
       go (there s l e) = absurd (n (s, l))
 
-  pub called-number : (own : List Number) → Gives own (numberOf it) → Gives (bookRefusals stocks times prices i own) (numberOf called-answer)
+  called-number : (own : List Number) → Gives own (numberOf it) → Gives (bookRefusals stocks times prices i own) (numberOf called-answer)
   called-number own g = go (called stocks times prices i)
     where
       c : ℕ

@@ -3,10 +3,10 @@
 use Prim.Native.Nat.{ℕ, _≤_, max}
 use mathlib.Core.Bool.{Bool, true, false}
 use mathlib.Core.List.{List, map}
-use mathlib.Core.Path.{_≡_, refl, sym, ap, _∙_}
+use mathlib.Core.Path.{_≡_, refl, sym, ap, subst, _∙_}
 use native.Mathlib.Nat.{max-le}
 use native.Mathlib.Omega.{arith}
-use borrow.Author.Tests.{eq-eqb, ne-eqb, eqb-true}
+use borrow.Author.Tests.{lt-ltb, le-ltb, eq-eqb, ne-eqb, eqb-true}
 use lib.Dec.{eqb}
 use lib.ListN.{length, length-append, length-map, length-replicate, length-drop}
 use Rattle.forms.specs.Choice.{if_then_else_}
@@ -26,7 +26,10 @@ use Rattle.window.proofs.Laws as window
 use Rattle.window.proofs.Window.{length-trades}
 use Rattle.stock.proofs.Calls.{held-few, room, fired-few}
 use Rattle.stock.specs.View.{Bytes, bytes, view, lay, shaped, Outcome, telling, settling, reading}
-use Rattle.stock.specs.Laws.{Left, ShapedIs, ViewIs, ReadBack, ToldByTheRules, SettledByTheRules, ReadByTheRules, ToldOne, SettledOne, ToldRefused, SettledRefused, ToldInShape, SettledInShape, Laws}
+use Rattle.stock.specs.Laws.{Left, BytesAre, ShapedIs, ViewIs, ReadBack, ToldByTheRules, SettledByTheRules, ReadByTheRules, ToldOne, SettledOne, ToldRefused, SettledRefused, ToldInShape, SettledInShape, Unwritten, ToldUnused, SettledUnused, Laws}
+
+bytes-are : BytesAre
+bytes-are kept times prices = (refl, (refl, refl))
 
 view-is : ViewIs
 view-is b =
@@ -55,6 +58,24 @@ lay-shaped h b q c w =
   where
     as-long : (f : Trade → ℕ) (xs : List ℕ) → length xs ≡ 512 → length (laid (b .kept .count) (map f (h .window)) xs) ≡ 512
     as-long f xs e = length-laid _ _ xs (max-le (omega arith) (simp length-map (omega arith))) ∙ e
+
+-- what is laid writes no other unused place
+laid-unwritten : (used : ℕ) (front xs : List ℕ) (held : ℕ) → length front ≡ held → Unwritten used held xs (laid used front xs)
+laid-unwritten used front xs held e j h =
+    let z = window.laws .freed-are-zero used front xs j (omega arith) in
+    ((λ l. z ∙ if-true _ _ _ (lt-ltb j used l)), (λ l. z ∙ if-false _ _ _ (le-ltb j used l)))
+
+stays-unwritten : (used : ℕ) (xs : List ℕ) → Unwritten used used xs xs
+stays-unwritten used xs j h = ((λ l. absurd (omega arith)), (λ _. refl))
+
+abbrev Both : Bytes → Bytes → Type 0
+Both b x = Unwritten (b .kept .count) (x .kept .count) (b .times) (x .times) × Unwritten (b .kept .count) (x .kept .count) (b .prices) (x .prices)
+
+lay-unwritten : (h : Whole) (b : Bytes) → Both b (lay h b)
+lay-unwritten h b = (laid-unwritten _ _ _ _ (length-map (h .window) (λ t. t .at)), laid-unwritten _ _ _ _ (length-map (h .window) (λ t. t .price)))
+
+same-unwritten : (b : Bytes) → Both b b
+same-unwritten b = (stays-unwritten (b .kept .count) (b .times), stays-unwritten (b .kept .count) (b .prices))
 
 -- ------------------------------------------------------------------ what any call comes to
 
@@ -85,6 +106,10 @@ module _ {A : Type 0} (b : Bytes) (h : Whole) (n : ℕ) (given one : A) (o : Out
           let not-0 : n ≡ 0 → ⊥ = λ y. z (ap (λ (o : Outcome A). number (o .answer)) all ∙ is ∙ y) in
           ap (λ (o : Outcome A). o .bytes) all ∙ simp (ne-eqb n 0 not-0, if-false)
       go false q = ap (λ (o : Outcome A). o .bytes) (gets-one q)
+
+  unwritten : Both b (o .bytes)
+  unwritten = subst (λ (o : Outcome A). Both b (o .bytes)) (sym e) (if-arms (λ (o : Outcome A). Both b (o .bytes)) (shaped b) {x = record { answer = given; bytes = if eqb n 0 then lay h b else b }} {y = record { answer = one; bytes = b }}
+      (λ _. if-arms (λ x. Both b x) (eqb n 0) {x = lay h b} {y = b} (λ _. lay-unwritten h b) (λ _. same-unwritten b)) (λ _. same-unwritten b))
 
   -- the places stay as many where there is room for what is laid
   same-shape : (n ≡ 0 → (b .kept .count ≤ 512) × (length (h .window) ≤ 512)) → shaped (o .bytes) ≡ shaped b
@@ -117,6 +142,14 @@ told-by-the-rules m b r times prices e = by-the-rules b (after m (view b)) (tell
 settled-by-the-rules : SettledByTheRules
 unfolding settling afterSettling
 settled-by-the-rules time b r times prices e = by-the-rules b (fire (view b)) (settles time (view b)) _ (record { answer = zeros 1; moment = no-moment }) _ e
+
+told-unused : ToldUnused
+unfolding telling
+told-unused m b r times prices e = unwritten b (after m (view b)) (tells m (view b)) (tellAnswer m (view b)) (zeros 1) _ e
+
+settled-unused : SettledUnused
+unfolding settling
+settled-unused time b r times prices e = unwritten b (fire (view b)) (settles time (view b)) (settleAnswer time (view b)) (record { answer = zeros 1; moment = no-moment }) _ e
 
 told-one : ToldOne
 unfolding telling
@@ -158,6 +191,7 @@ read-by-the-rules b = (if-true _ _ _, if-false _ _ _)
 
 pub laws : Laws
 laws = record {
+  bytes-are = bytes-are;
   shaped-is = shaped-is;
   view-is = view-is;
   read-back = read-back;
@@ -170,6 +204,8 @@ laws = record {
   settled-refused = settled-refused;
   told-in-shape = told-in-shape;
   settled-in-shape = settled-in-shape;
+  told-unused = told-unused;
+  settled-unused = settled-unused;
   tell-determined = λ m b x y e f. ap (λ (o : Outcome Answer). left (record { answer = o .answer; next = o .bytes .kept }) o) (e ∙ sym f);
   settle-determined = λ time b x y e f. ap (λ (o : Outcome Notice). left (record { notice = o .answer; next = o .bytes .kept }) o) (e ∙ sym f);
   read-determined = λ b. agree (reading b);

@@ -1,6 +1,6 @@
 -- What the promises of a record's methods come to. Each field is a theorem: `laws` of proofs/Laws.antt proves the record.
 -- Assumes nothing.
-use Prim.Native.Nat.{ℕ, _<_}
+use Prim.Native.Nat.{ℕ, _≤_, _<_}
 use mathlib.Core.Bool.{true, false}
 use mathlib.Core.List.{List}
 use mathlib.Core.Logic.{_↔_}
@@ -14,6 +14,7 @@ use Rattle.rules.specs.Numbers.{zeros, afterTelling, afterSettling, tellAnswer,
 use Rattle.rules.specs.declared.Answer.{Answer}
 use Rattle.rules.specs.declared.Message.{Message}
 use Rattle.stock.specs.View.{Bytes, bytes, view, lay, shaped, Tells, Settles, reading}
+use Rattle.stock.specs.declared.Record.{Record}
 use Rattle.stock.specs.declared.Told.{Told}
 use Rattle.stock.specs.declared.Settled.{Settled}
 
@@ -22,6 +23,10 @@ pub record Left (R : Type 0) : Type 0 where
   pub result : R
   pub times : List ℕ
   pub prices : List ℕ
+
+-- bytes put together: each part is what was given for it
+abbrev pub BytesAre : Type 0
+BytesAre = (kept : Record) (times prices : List ℕ) → let b = bytes kept times prices in b .kept ≡ kept and b .times ≡ times and b .prices ≡ prices
 
 -- the parts of a stock are in shape where each has 512 places
 abbrev pub ShapedIs : Type 0
@@ -59,12 +64,12 @@ ReadByTheRules = (b : Bytes) → (shaped b ≡ true → reading b ≡ readAnswer
 
 -- every number but 0 leaves every byte as it stood
 abbrev pub ToldRefused : Type 0
-ToldRefused = (m : Message) (b : Bytes) (r : Told) (times prices : List ℕ) → Tells m b r times prices → (r .answer .number ≡ 0 → ⊥)
+ToldRefused = (m : Message) (b : Bytes) (r : Told) (times prices : List ℕ) → Tells m b r times prices → ¬ (r .answer .number ≡ 0)
     → bytes (r .next) times prices ≡ b
 
 abbrev pub SettledRefused : Type 0
 SettledRefused = (time : ℕ) (b : Bytes) (r : Settled) (times prices : List ℕ) → Settles time b r times prices
-    → (r .notice .answer .number ≡ 0 → ⊥) → bytes (r .next) times prices ≡ b
+    → ¬ (r .notice .answer .number ≡ 0) → bytes (r .next) times prices ≡ b
 
 -- no call changes how many places the parts have
 abbrev pub ToldInShape : Type 0
@@ -75,7 +80,21 @@ abbrev pub SettledInShape : Type 0
 SettledInShape = (time : ℕ) (b : Bytes) (r : Settled) (times prices : List ℕ) → Settles time b r times prices
     → shaped (bytes (r .next) times prices) ≡ shaped b
 
+-- "A freed place becomes 0 and no other unused place is written": of the places behind the trades that are held then, one that was used is 0, any
+-- other as it was
+abbrev pub Unwritten : (used held : ℕ) (before after : List ℕ) → Type 0
+Unwritten used held before after = (j : ℕ) → held ≤ j → (j < used → getD after j 0 ≡ 0) × (used ≤ j → getD after j 0 ≡ getD before j 0)
+
+abbrev pub ToldUnused : Type 0
+ToldUnused = (m : Message) (b : Bytes) (r : Told) (times prices : List ℕ) → Tells m b r times prices
+    → Unwritten (b .kept .count) (r .next .count) (b .times) times × Unwritten (b .kept .count) (r .next .count) (b .prices) prices
+
+abbrev pub SettledUnused : Type 0
+SettledUnused = (time : ℕ) (b : Bytes) (r : Settled) (times prices : List ℕ) → Settles time b r times prices
+    → Unwritten (b .kept .count) (r .next .count) (b .times) times × Unwritten (b .kept .count) (r .next .count) (b .prices) prices
+
 pub record Laws : Type 0 where
+  pub bytes-are : BytesAre
   pub shaped-is : ShapedIs
   pub view-is : ViewIs
   pub read-back : ReadBack
@@ -88,6 +107,8 @@ pub record Laws : Type 0 where
   pub settled-refused : SettledRefused
   pub told-in-shape : ToldInShape
   pub settled-in-shape : SettledInShape
+  pub told-unused : ToldUnused
+  pub settled-unused : SettledUnused
   -- two results that a promise of src/lib.rt allows agree, in the answer, the next record and every place
   pub tell-determined : (m : Message) (b : Bytes) → Determines (λ (x : Left Told). Tells m b (x .result) (x .times) (x .prices))
   pub settle-determined : (time : ℕ) (b : Bytes) → Determines (λ (x : Left Settled). Settles time b (x .result) (x .times) (x .prices))

@@ -1,5 +1,5 @@
 // Plays the day of document 01 twice, through the methods of one stock's record and through the book's functions
-// over a lent record, and prints the lines that document 01 prints, twice: each stands for the stock 0.
+// over a lent record, and prints the lines that document 01 prints, twice: the stock column is 0.
 use rules::Answer;
 use rules::Course;
 use rules::Message;

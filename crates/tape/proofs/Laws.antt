@@ -19,9 +19,10 @@ use Rattle.tape.specs.Lines.Reads.{a-line, no-line}
 use Rattle.tape.specs.Printing.{decimal, digits, ahead, printed, printing}
 use Rattle.tape.specs.Scanning.{opened, lengthened, digit, step, place, finished, scanned}
 use Rattle.tape.specs.Examples.{right, words, AllRead, lines, ends, endings, FirstLine}
-use Rattle.tape.specs.Laws.{ReadsBack, OneWay, NoLonger, Laws}
+use Rattle.tape.specs.Laws.{ReadsBack, OneWay, NoLonger, SpeltIs, Laws}
 use Rattle.tape.specs.declared.Line.{Line}
 use Rattle.tape.proofs.Printing.{low, high, tenth, below-or-not}
+use Rattle.tape.proofs.Words.{feed-is, line-is, read-as, digits-are, printed-is}
 use Rattle.tape.proofs.Scanning.{is-number, ten-digits, at-most-five, scanned-line, reads}
 use Rattle.tape.proofs.Feeds.{every-append, line-ends}
 
@@ -122,10 +123,20 @@ first-line : FirstLine
 unfolding printed ahead parted digits decimal if_then_else_
 first-line = refl
 
+spelt-is : SpeltIs
+unfolding spelt further
+spelt-is = (refl, spelt-snoc)
+
 -- ------------------------------------------------------------------ all of them
 
 pub laws : Laws
 laws = record {
+  feed-is = feed-is;
+  line-is = line-is;
+  read-as = read-as;
+  spelt-is = spelt-is;
+  digits-are = digits-are;
+  printed-is = printed-is;
   read-back = read-back;
   one-way = one-way;
   ends-there = line-ends;

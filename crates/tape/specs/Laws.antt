@@ -1,15 +1,49 @@
 -- What lines obey. Each field is a theorem: `laws` of proofs/Laws.antt proves the record.
 -- Assumes nothing.
-use Prim.Native.Nat.{ℕ, _≤_}
+use Prim.Native.Nat.{ℕ, _+_, _-_, _*_, _/_, _%_, _≤_, _<_}
 use mathlib.Core.Bool.{true}
-use mathlib.Core.List.{List, _∷_, _++_, map}
+use mathlib.Core.List.{List, [], _∷_, _++_, map}
+use mathlib.Core.Logic.{_↔_}
 use mathlib.Core.Path.{_≡_}
-use lib.ListN.{length}
+use lib.ListN.{length, getD}
 use Rattle.forms.specs.Promises.{Determines}
 use Rattle.forms.specs.Tables.{every}
+use Rattle.forms.specs.Words.{_and_, Gives}
 use Rattle.tape.specs.Examples.{right, words, AllRead, lines, ends, endings, FirstLine}
-use Rattle.tape.specs.Lines.{isNumber, spelt, IsLine, Reads, toFeed}
-use Rattle.tape.specs.Printing.{digits, Printed, printing}
+use Rattle.tape.specs.Lines.{isNumber, spelt, IsLine, lineOf, unread, Reads, toFeed}
+use Rattle.tape.specs.Printing.{digits, printed, Printed, printing}
+use Rattle.tape.specs.Words.{Every, IsFeed, IsWord, spaced, counts}
+
+-- ------------------------------------------------------------------ in words
+
+-- where a line ends
+abbrev pub FeedIs : Type 0
+FeedIs = (text : List ℕ) → IsFeed text (toFeed text)
+
+-- a line is a letter, and behind a space each as many words as follow the letter
+abbrev pub LineIs : Type 0
+LineIs = (text : List ℕ) (letter : ℕ) (words : List (List ℕ))
+    → IsLine text letter words ↔ (text ≡ letter ∷ spaced words and Every IsWord words and 1 ≤ length words and Gives (counts letter) (length words))
+
+-- it is read as its letter and what its words spell, in their order; a text that is no line as letter 0
+abbrev pub ReadAs : Type 0
+ReadAs = (letter : ℕ) (words : List (List ℕ)) → let l = lineOf letter words in
+    l .letter ≡ letter and ((j : ℕ) → j < length words → getD (l .numbers) j 0 ≡ spelt (getD words j [])) and unread .letter ≡ 0
+
+-- a digit more: ten times the number before it, and the digit
+abbrev pub SpeltIs : Type 0
+SpeltIs = spelt [] ≡ 0 and ((word : List ℕ) (c : ℕ) → spelt (word ++ (c ∷ [])) ≡ 10 * spelt word + (c - 48))
+
+-- a number below ten is printed as its digit, any other of 64 bits as a tenth of it and one digit more
+abbrev pub DigitsAre : Type 0
+DigitsAre = (n : ℕ) → (n < 10 → digits n ≡ (48 + n) ∷ []) and (10 ≤ n → n < 18_446_744_073_709_551_616 → digits n ≡ digits (n / 10) ++ ((48 + n % 10) ∷ []))
+
+-- a printed line: stock, time, letter and all numbers, and a line feed
+abbrev pub PrintedIs : Type 0
+PrintedIs = (stock time letter : ℕ) (numbers : List ℕ)
+    → printed stock time letter numbers ≡ digits stock ++ (spaced (digits time ∷ (letter ∷ []) ∷ map digits numbers) ++ (10 ∷ []))
+
+-- ------------------------------------------------------------------ what follows of them
 
 -- the digits that printing writes are a number, and reading them gives it back
 pub record ReadsBack (n : ℕ) : Type 0 where
@@ -28,7 +62,15 @@ EndsThere = (text rest : List ℕ) (l : ℕ) (ws : List (List ℕ)) → IsLine t
 abbrev pub NoLonger : Type 0
 NoLonger = (text : List ℕ) (l : ℕ) (ws : List (List ℕ)) → IsLine text l ws → length text ≤ 56
 
+-- ------------------------------------------------------------------ all of them
+
 pub record Laws : Type 0 where
+  pub feed-is : FeedIs
+  pub line-is : LineIs
+  pub read-as : ReadAs
+  pub spelt-is : SpeltIs
+  pub digits-are : DigitsAre
+  pub printed-is : PrintedIs
   pub read-back : (n : ℕ) → n ≤ 4_294_967_295 → ReadsBack n
   pub one-way : OneWay
   pub ends-there : EndsThere

@@ -1,4 +1,5 @@
 pub mod Lines
+pub mod Words
 pub mod Scanning
 pub mod Printing
 pub mod Examples

@@ -5,11 +5,11 @@ use lib.Dec.{eqb}
 use Rattle.forms.proofs.Bools.{joined}
 use Rattle.rules.specs.Numbers.{badSetup}
 use Rattle.tape.specs.declared.Line.{Line}
-use Rattle.day.specs.Contents.{setupIn, isSetup}
+use Rattle.day.specs.Contents.{setupOf, isSetup}
 use Rattle.day.proofs.is_setup.Statement.{statement}
 use Rattle.day.proofs.is_setup.Tie as tie
 
-of-range : (line : Line) (bad : Bool) → bad ≡ badSetup (setupIn (line .numbers)) → (eqb (line .letter) 83 && not bad) ≡ isSetup line
+of-range : (line : Line) (bad : Bool) → bad ≡ badSetup (setupOf (line .numbers)) → (eqb (line .letter) 83 && not bad) ≡ isSetup line
 unfolding isSetup
 of-range line bad e = simp (e, joined)
 

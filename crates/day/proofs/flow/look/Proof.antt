@@ -3,7 +3,7 @@ use mathlib.Core.Bool.{true, false, true≢false, false≢true}
 use mathlib.Core.List.{List}
 use mathlib.Core.Path.{_≡_, refl}
 use borrow.Author.Needs.{needs}
-use Rattle.tape.specs.Lines.{Reads, toFeed}
+use Rattle.tape.specs.Lines.{Reads, unread, toFeed}
 use Rattle.tape.specs.declared.Line.{Line}
 use Rattle.day.specs.Flow.{reachOf, between, Sees}
 use Rattle.day.proofs.flow.look.Statement.{statement}
@@ -13,8 +13,8 @@ module _ (bytes : List ℕ) (from to most feed : ℕ) (m : most ≡ reachOf from
   seen : (line : Line) → from + feed < most → Reads (between bytes from (from + feed)) line → Sees bytes from to (record { found = true; line = line; next = from + feed + 1 })
   seen line l p = rw (← m, ← f) ((λ _. (l, p, refl)), (λ e. absurd (true≢false e)))
 
-  unseen : (line : Line) → most ≤ from + feed → Sees bytes from to (record { found = false; line = line; next = from })
-  unseen line l = rw (← m, ← f) ((λ e. absurd (false≢true e)), (λ _. (l, refl)))
+  unseen : (line : Line) → line ≡ unread → most ≤ from + feed → Sees bytes from to (record { found = false; line = line; next = from })
+  unseen line u l = rw (← m, ← f) ((λ e. absurd (false≢true e)), (λ _. (l, u, refl)))
 
 reach-requires : tie.Need-reach-requires
 reach-requires c κs = search needs

@@ -3,17 +3,19 @@ use mathlib.Core.Path.{_≡_, refl}
 use native.Mathlib.Omega.{arith}
 use borrow.Author.Needs.{needs}
 use lib.ListN.{length, length-set}
+use Rattle.day.specs.Flow.{lowered}
+use Rattle.day.proofs.Lowered.{one-more, all-moved}
 use Rattle.day.proofs.flow.lower.Statement.{statement}
 use Rattle.day.proofs.flow.lower.Tie as tie
 
 abbrev Inv-loop : tie.InvT-loop
-Inv-loop bytes₀ gone keep i₀ bytes i = (i ≤ keep) × (length bytes ≡ length bytes₀)
+Inv-loop bytes₀ gone keep i₀ bytes i = (i ≤ keep) × (length bytes ≡ length bytes₀) × (bytes ≡ lowered bytes₀ gone i)
 
 abbrev μ-loop : tie.MeasureT-loop
 μ-loop bytes₀ gone keep i₀ bytes i = keep - i
 
 loop-holds : tie.Need-loop-holds Inv-loop μ-loop
-loop-holds c = (omega arith, refl)
+loop-holds c = (omega arith, refl, refl)
 
 add-bytes : tie.Need-add-bytes Inv-loop μ-loop
 add-bytes c = omega arith
@@ -31,13 +33,13 @@ loop-less : tie.Need-loop-less Inv-loop μ-loop
 loop-less c = omega arith
 
 loop-again : tie.Need-loop-again Inv-loop μ-loop
-loop-again c = (omega arith, simp length-set (omega arith))
+loop-again c = (omega arith, simp length-set (omega arith), search one-more)
 
 same-length : tie.Need-same-length Inv-loop μ-loop
 same-length c = search needs
 
 returns : tie.Need-returns Inv-loop μ-loop
-returns c = tt
+returns c = search all-moved
 
 pub lower-spec : {M : Type 1} → statement M
 lower-spec =
