@@ -103,6 +103,71 @@ def rows_apart(w, ps):
     w.drop()
 
 
+def lent_on(w, ps, first, past):
+    """each lent array lent on, by two locals from `first` on; gives the local that each parameter is in, of which the first is behind `past`"""
+    place = {k: f"_{k + past}" for k in ps.all}
+    for k in MUTS:
+        pointer, lent = (f"_{first + 2 * k + i}" for i in (0, 1))
+        w.set(pointer, w.addr_in(f"_{k + past}"), "(tt, tt)")
+        w.set(lent, w.agg(w.load(pointer), w.load(f"_{k + past}", 1)), ps.typed(k))
+        place[k] = lent
+    return [place[k] for k in ps.all]
+
+
+def lifetime(w, a):
+    """a lifetime of the call, and the local in front; gives where it lies"""
+    w.lam("lft-new ! tt (λ ν.")
+    w.c = ["nu"] + w.c
+    w.front(f"_{a}")
+    return f"l{sub(a)}"
+
+
+def to_callee(w, b, mine):
+    """the local is lent, and what the callee asks is in front"""
+    w.add("await ! tt $")
+    w.lam("pick ! (λ δ.")
+    w.split("own0", "lent")
+    for own in reversed(mine[:-1]):
+        w.front(own, mine[-1])
+        w.join(mine[-1])
+    w.front("nu", "toks")
+    w.join("alive")
+    w.front("alive", "own0", mine[-1])
+    w.use(3, ["pre"], f"raw (Step 𝓤 H A at-mem run .pre (to-step {b} ν δ))", f"goes-step {b} ν δ")
+    w.note()
+
+
+def made(w, ps, b, arguments_):
+    """the call is made, and what it ensures is known as e"""
+    w.lam(f"calls-at ! fm (Step 𝓤 H A at-mem run) known (to-step {b} ν δ) {w.opds(*map(w.load, arguments_))} (λ v.")
+    lifetimes = nest(["ν ∷ []"] + [f"κ{sub(k)}" for k in ps.slices])
+    w.use(1, ["post"], f"later (some (λ (r : {ps.answer}). ((‵ (flft (ν ∷ []) fullShare) ⊛ tokens) ⊛ ‵ (N.the-row .own r (v ∷ []))) ⊛ raw (ensured 𝓤 H A g.ended (g.clauses 𝓤 H A at-mem run) {lifetimes} (x′ {b} δ) tt r)))", "id⊢ 𝓤 _")
+    w.add("await ! tt $")
+    w.lam("pick ! (λ r.")
+    w.split("result", "ensured")
+    w.front("ensured")
+    done = "Done r (zs .0) (zs .1 .0) (zs .1 .1 .0)"
+    w.use(1, ["ensured"], f"some (λ (zs : Ends). ‵ (lasts g.ended {lifetimes} (x′ {b} δ) zs) ⊛ raw (fact 𝓤 ({done})))", "id⊢ 𝓤 _")
+    w.ensures("zs", done, "e")
+
+
+def answered(w, a):
+    """the result is in the local behind the one that was lent"""
+    w.drop()
+    w.front("result")
+    w.split("alive", "given")
+    w.struct_given("N", "is", "isr", f"_{a + 1}", f"l{sub(a + 1)}")
+
+
+def ended(w):
+    """the lifetime is ended, and what was lent is in front"""
+    w.front("alive")
+    w.split("nu", "toks")
+    w.add("lft-end ! tt $")
+    w.put(1, "dead")
+    w.front("dead", "lent", "final0")
+
+
 def entered(w, ps, locals_):
     w.front("owns")
     for name in ("array", "n"):
@@ -126,13 +191,7 @@ def arguments(w, ps, array):
     w.set(pointer, w.addr_of(f"_{array}"), "(tt, tt)")
     w.set(whole, w.agg(w.load(pointer), w.load("_2")), "(tt, (tt, (record { fits = n-fits }, tt)))")
     w.rewrite(whole, f"λ (k : ℕ). ‵ (fat fullShare (sliceTy (tyRef erased mut (pointee (T.the-row .written)))) {s} 0 (sliceVal ({a}, 0) k))", "sym (len within)")
-    place = {k: f"_{k + 2}" for k in ps.all}
-    for k in MUTS:
-        pointer, lent = (f"_{array + 2 + 2 * k + i}" for i in (0, 1))
-        w.set(pointer, w.addr_in(f"_{k + 2}"), "(tt, tt)")
-        w.set(lent, w.agg(w.load(pointer), w.load(f"_{k + 2}", 1)), ps.typed(k))
-        place[k] = lent
-    return [whole] + [place[k] for k in ps.all]
+    return [whole] + lent_on(w, ps, array + 2, 2)
 
 
 def lend(w, ps, a):
@@ -141,57 +200,26 @@ def lend(w, ps, a):
         w.front(f"own{k}")
         w.use(1, ["both"], f"own{sub(k)} ⊛ own{sub(k)}", f"shr-slice-copy 𝓤 H A W (named 0) κ{sub(k)} u32 .twice x{sub(k)} (s{sub(k)} ∷ [])")
         w.split(f"own{k}", f"own{k}'")
-    w.lam("lft-new ! tt (λ ν.")
-    w.c = ["nu"] + w.c
-    w.front(f"_{a}")
-    b = f"l{sub(a)}"
+    b = lifetime(w, a)
     w.use(1, ["all"], f"‵ (cells (mem T.the-row) h {b} 0)", f"cells-in 𝓤 H A W h {b} was")
     w.use(1, ["two"], f"‵ (cells (mem T.the-row) (take n h) {b} 0) ⊛ ‵ (cells (mem T.the-row) (drop n h) {b} (place (mem T.the-row .size) 0 n))", f"cut 𝓤 H A W (mem T.the-row) n h {b} 0 (fits-in within)")
     w.split("first", "rest")
     w.use(1, ["lends"], f"later (some (λ (δ : GName). own₀ {b} ν δ ⊛ ‵ (flent (ν ∷ []) (Held T.the-row (length (take n h)) {b} 0 δ))))", f"lends-slice 𝓤 H A W T.the-row (named 0) (ν ∷ []) (take n h) {b} 0 (room₀ within)")
-    w.add("await ! tt $")
-    w.lam("pick ! (λ δ.")
-    w.split("own0", "lent")
-    mine = [f"own{k}'" if k in ps.shared else f"own{k}" for k in ps.slices]
-    for own in reversed(mine[:-1]):
-        w.front(own, mine[-1])
-        w.join(mine[-1])
-    w.front("nu", "toks")
-    w.join("alive")
-    w.front("alive", "own0", mine[-1])
-    w.use(3, ["pre"], f"raw (Step 𝓤 H A at-mem run .pre (to-step {b} ν δ))", f"goes-step {b} ν δ")
-    w.note()
+    to_callee(w, b, [f"own{k}'" if k in ps.shared else f"own{k}" for k in ps.slices])
 
 
 def called(w, ps, a, arguments_):
     """the call is made; what it ensures is known as e, the last lists' lengths as e₀, e₁ and e₂, and its result is in the local"""
-    b, result = f"l{sub(a)}", f"_{a + 1}"
-    w.lam(f"calls-at ! fm (Step 𝓤 H A at-mem run) known (to-step {b} ν δ) {w.opds(*map(w.load, arguments_))} (λ v.")
-    lifetimes = nest(["ν ∷ []"] + [f"κ{sub(k)}" for k in ps.slices])
-    w.use(1, ["post"], f"later (some (λ (r : {ps.answer}). ((‵ (flft (ν ∷ []) fullShare) ⊛ tokens) ⊛ ‵ (N.the-row .own r (v ∷ []))) ⊛ raw (ensured 𝓤 H A g.ended (g.clauses 𝓤 H A at-mem run) {lifetimes} (x′ {b} δ) tt r)))", "id⊢ 𝓤 _")
-    w.add("await ! tt $")
-    w.lam("pick ! (λ r.")
-    w.split("result", "ensured")
-    w.front("ensured")
-    done = "Done r (zs .0) (zs .1 .0) (zs .1 .1 .0)"
-    w.use(1, ["ensured"], f"some (λ (zs : Ends). ‵ (lasts g.ended {lifetimes} (x′ {b} δ) zs) ⊛ raw (fact 𝓤 ({done})))", "id⊢ 𝓤 _")
-    w.ensures("zs", done, "e")
+    made(w, ps, f"l{sub(a)}", arguments_)
     for k in [0, *MUTS]:
         w.last_list(k, f"e{sub(k)}")
-    w.drop()
-    w.front("result")
-    w.split("alive", "given")
-    w.struct_given("N", "is", "isr", result, f"l{sub(a + 1)}")
+    answered(w, a)
 
 
 def back(w, a):
     """the lifetime is ended, and the local comes back whole"""
     b = f"l{sub(a)}"
-    w.front("alive")
-    w.split("nu", "toks")
-    w.add("lft-end ! tt $")
-    w.put(1, "dead")
-    w.front("dead", "lent", "final0")
+    ended(w)
     w.use(3, ["array"], f"later (‵ (Arr (mem T.the-row) (length (take n h)) .lies (zs .0) {b} 0))", f"slice-back 𝓤 H A W T.the-row (ν ∷ []) δ (zs .0) (length (take n h)) {b} 0")
     w.add("await ! tt $")
     w.front("array", "rest")
@@ -281,11 +309,15 @@ def words(ps):
     }
 
 
-if __name__ == "__main__":
-    template = (HERE / "part.tpl").read_text()
-    for p in FUNCTIONS:
+def write(template, functions, proofs, words):
+    """the proof of each function, by its template and the words for it"""
+    for p in functions:
         ps = Params(p["params"])
         ps.answer = p["Answer"]
-        proof = PROOFS / p["fn"] / "Proof.antt"
+        proof = proofs / p["fn"] / "Proof.antt"
         proof.parent.mkdir(parents=True, exist_ok=True)
-        proof.write_text(used(filled(template, {**p, **words(ps)})))
+        proof.write_text(used(filled((HERE / template).read_text(), {**p, **words(ps)})))
+
+
+if __name__ == "__main__":
+    write("part.tpl", FUNCTIONS, PROOFS, words)

@@ -6,11 +6,12 @@
     MADE { ANSWER, next: v }
 
 The parameters behind r are the callee's behind its record: two `&mut [u32]`, and a number or a message by value. whole.tpl
-has what is said of a function beside its MIR; the steps through the MIR are worked out here, over a context by name
-(ctx.py). Where a body in crates/stock_day/src/lend.rt changes, `rt mir stock_day` shows the MIR that the steps must follow.
+has what is said of a function beside its MIR; the steps through the MIR are worked out here and, where lending the first n
+records takes the same ones, in part.py, over a context by name (ctx.py). Where a body in crates/stock_day/src/lend.rt
+changes, `rt mir stock_day` shows the MIR that the steps must follow.
 """
-from lent import HERE, filled, struct_typed, used
-from part import MUTS, Params, nest, parted, rows_apart
+from lent import HERE, struct_typed
+from part import MUTS, answered, ended, lent_on, lifetime, made, parted, rows_apart, to_callee, write
 from ctx import Walk, sub
 
 PROOFS = HERE.parents[1] / "crates" / "stock_day" / "proofs" / "lend"
@@ -41,66 +42,31 @@ def arguments(w, ps, local):
     """the address of the local record, and each lent array lent on; gives the local that each argument is in"""
     w.set(f"_{local}", "of-opd ! " + w.load("_1"), struct_typed("T", "h", "was"))
     w.set(f"_{local + 2}", w.addr_of(f"_{local}"), "(tt, tt)")
-    place = {k: f"_{k + 1}" for k in ps.all}
-    for k in MUTS:
-        pointer, lent = (f"_{local + 1 + 2 * k + i}" for i in (0, 1))
-        w.set(pointer, w.addr_in(f"_{k + 1}"), "(tt, tt)")
-        w.set(lent, w.agg(w.load(pointer), w.load(f"_{k + 1}", 1)), ps.typed(k))
-        place[k] = lent
-    return [f"_{local + 2}"] + [place[k] for k in ps.all]
+    return [f"_{local + 2}"] + lent_on(w, ps, local + 1, 1)
 
 
 def lend(w, ps, a):
     """the local is lent for a lifetime of the call, and what the callee asks is in front"""
-    w.lam("lft-new ! tt (λ ν.")
-    w.c = ["nu"] + w.c
-    w.front(f"_{a}")
-    b = f"l{sub(a)}"
+    b = lifetime(w, a)
     w.use(1, ["lies"], f"‵ (mem T.the-row .lies h {b} 0)", f"cell-in 𝓤 H A W h {b} was")
     w.use(1, ["lends"], f"later (some (λ (δ : GName). own₀ {b} ν δ ⊛ ‵ (flent (ν ∷ []) (Body (mem T.the-row) {b} 0 δ))))", f"lends-ref 𝓤 H A W T.the-row (named 0) (ν ∷ []) h {b} 0")
-    w.add("await ! tt $")
-    w.lam("pick ! (λ δ.")
-    w.split("own0", "lent")
-    w.front("own1", "own2")
-    w.join("own2")
-    w.front("nu", "toks")
-    w.join("alive")
-    w.front("alive", "own0", "own2")
-    w.use(3, ["pre"], f"raw (Step 𝓤 H A at-mem run .pre (to-step {b} ν δ))", f"goes-step {b} ν δ")
-    w.note()
+    to_callee(w, b, [f"own{k}" for k in MUTS])
 
 
 def called(w, ps, a, arguments_):
     """the call is made; what it ensures is known as e, the last lists' lengths as e₁ and e₂, and its result is in the local"""
-    b = f"l{sub(a)}"
-    w.lam(f"calls-at ! fm (Step 𝓤 H A at-mem run) known (to-step {b} ν δ) {w.opds(*map(w.load, arguments_))} (λ v.")
-    lifetimes = nest(["ν ∷ []"] + [f"κ{sub(k)}" for k in ps.slices])
-    w.use(1, ["post"], f"later (some (λ (r : {ps.answer}). ((‵ (flft (ν ∷ []) fullShare) ⊛ tokens) ⊛ ‵ (N.the-row .own r (v ∷ []))) ⊛ raw (ensured 𝓤 H A g.ended (g.clauses 𝓤 H A at-mem run) {lifetimes} (x′ {b} δ) tt r)))", "id⊢ 𝓤 _")
-    w.add("await ! tt $")
-    w.lam("pick ! (λ r.")
-    w.split("result", "ensured")
-    w.front("ensured")
-    done = "Done r (zs .0) (zs .1 .0) (zs .1 .1 .0)"
-    w.use(1, ["ensured"], f"some (λ (zs : Ends). ‵ (lasts g.ended {lifetimes} (x′ {b} δ) zs) ⊛ raw (fact 𝓤 ({done})))", "id⊢ 𝓤 _")
-    w.ensures("zs", done, "e")
+    made(w, ps, f"l{sub(a)}", arguments_)
     w.fsplit("final0", "lasts")
     w.front("lasts")
     for k in MUTS:
         w.last_list(k, f"e{sub(k)}")
-    w.drop()
-    w.front("result")
-    w.split("alive", "given")
-    w.struct_given("N", "is", "isr", f"_{a + 1}", f"l{sub(a + 1)}")
+    answered(w, a)
 
 
 def back(w, a):
     """the lifetime is ended, and the local comes back"""
     b = f"l{sub(a)}"
-    w.front("alive")
-    w.split("nu", "toks")
-    w.add("lft-end ! tt $")
-    w.put(1, "dead")
-    w.front("dead", "lent", "final0")
+    ended(w)
     w.use(3, ["lies"], f"later (‵ (mem T.the-row .lies (zs .0) {b} 0))", f"ref-back 𝓤 H A W T.the-row (ν ∷ []) δ (zs .0) {b} 0")
     w.add("await ! tt $")
     w.use(1, [f"_{a}"], f"given (IsT (zs .0)) (‵ (fat fullShare T′.mir {b} 0 (valT (zs .0))))", f"cell-out 𝓤 H A W (zs .0) {b}")
@@ -138,10 +104,4 @@ def words(ps):
 
 
 if __name__ == "__main__":
-    template = (HERE / "whole.tpl").read_text()
-    for p in FUNCTIONS:
-        ps = Params(p["params"])
-        ps.answer = p["Answer"]
-        proof = PROOFS / p["fn"] / "Proof.antt"
-        proof.parent.mkdir(parents=True, exist_ok=True)
-        proof.write_text(used(filled(template, {**p, **words(ps)})))
+    write("whole.tpl", FUNCTIONS, PROOFS, words)
