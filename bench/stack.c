@@ -1,72 +1,141 @@
-/* Measures the stack that each function of the library takes: every call runs on a stack of its own that was filled with a pattern, and
- * the deepest byte that no longer has it tells. Printed is the most of all calls of a function, less what an empty call takes; what is
- * handed over on the stack is in it. The calls go with 0 and with 512 trades held, and the longest ways: a limit state that ends
- * and begins again, a trade that moves the reference into one, trades that leave, windows that are emptied. */
+/* Measures the stack that each function of the library takes of its caller: the bytes below the stack pointer at the call instruction, the
+ * return address included.
+ *
+ * Each call is made on a stack of its own, filled with a pattern, on which nothing runs but `perform` and the function. The stack pointer
+ * is noted on the way into the function, so that all of `perform` lies above it: its frame, the room for the answer, the arguments on
+ * the stack. The deepest byte without the pattern says how far the function went. A function of a known depth is measured first, and
+ * must come out as that.
+ *
+ * The table has the most of all calls of a function: with 0 and with 512 trades held, and the longest ways, which are a limit state
+ * that ends and begins again, a trade that moves the reference into one, trades that leave, windows that are emptied. */
 #include <stdio.h>
 #include <stdlib.h>
 #include <string.h>
-#include <ucontext.h>
 
 #include "sumpheron.h"
 
 enum { SIZE = 1 << 16, PATTERN = 0xa5, STOCKS = SUMPHERON_MOST_STOCKS, HELD = SUMPHERON_PLACES };
 enum { END = 23400000, NOON = 1000000, PRICE = 100000 };
-enum function { EMPTY, SETUP, SETTLE, READ, TRADE, QUOTE, OPENING, PAUSE, REOPENING, CLOSING, FUNCTIONS };
+enum function { KNOWN, SETUP, SETTLE, READ, TRADE, QUOTE, OPENING, PAUSE, REOPENING, CLOSING, FUNCTIONS };
 
-static const char *const names[FUNCTIONS] = {"empty", "setup", "settle", "read", "trade", "quote", "opening", "pause", "reopening", "closing"};
+/* ---------------------------------------------------------------- the way into a function */
+
+typedef void routine(void);
+
+/* Calls a routine on the stack that ends at `top`. */
+void elsewhere(routine *called, unsigned char *top);
+/* `through` notes the stack pointer in `entry` and jumps to `target`, all arguments left as they are. */
+routine *target;
+unsigned char *entry;
+/* Writes one byte, KNOWN_BYTES below the call, and gives no answer; it is called as the function with the most arguments. */
+routine known;
+enum { KNOWN_BYTES = 1000 };
+
+#if defined __x86_64__
+enum { PUSHED_BY_CALL = 8 };
+__asm__(".text; .globl elsewhere, through, known\n"
+        "elsewhere: push %rbx; mov %rsp, %rbx; mov %rsi, %rsp; call *%rdi; mov %rbx, %rsp; pop %rbx; ret\n"
+        "through: mov %rsp, entry(%rip); jmp *target(%rip)\n"
+        "known: mov %rdi, %rax; sub $992, %rsp; movb $0, (%rsp); add $992, %rsp; ret\n");
+#elif defined __aarch64__
+enum { PUSHED_BY_CALL = 0 };
+__asm__(".text; .globl elsewhere, through, known\n"
+        "elsewhere: stp x29, x30, [sp, #-16]!; mov x29, sp; mov sp, x1; blr x0; mov sp, x29; ldp x29, x30, [sp], #16; ret\n"
+        "through: mov x17, sp; adrp x16, entry; str x17, [x16, #:lo12:entry]\n"
+        "    adrp x16, target; ldr x16, [x16, #:lo12:target]; br x16\n"
+        "known: sub sp, sp, #1008; strb wzr, [sp, #8]; add sp, sp, #1008; ret\n");
+#else
+#error "neither x86-64 nor 64-bit Arm"
+#endif
+
+/* `through`, with the type of each function. */
+#define THROUGH(name, type) extern __typeof__(sumpheron_##type) through_##name __asm__("through")
+THROUGH(known, quote);
+THROUGH(setup, setup);
+THROUGH(settle, settle);
+THROUGH(read, read);
+THROUGH(trade, trade);
+THROUGH(quote, quote);
+THROUGH(opening, opening);
+THROUGH(pause, pause);
+THROUGH(reopening, reopening);
+THROUGH(closing, closing);
+
+static const struct { const char *name; routine *code; } functions[FUNCTIONS] = {
+    [KNOWN] = {"known", known},
+    [SETUP] = {"setup", (routine *)sumpheron_setup},
+    [SETTLE] = {"settle", (routine *)sumpheron_settle},
+    [READ] = {"read", (routine *)sumpheron_read},
+    [TRADE] = {"trade", (routine *)sumpheron_trade},
+    [QUOTE] = {"quote", (routine *)sumpheron_quote},
+    [OPENING] = {"opening", (routine *)sumpheron_opening},
+    [PAUSE] = {"pause", (routine *)sumpheron_pause},
+    [REOPENING] = {"reopening", (routine *)sumpheron_reopening},
+    [CLOSING] = {"closing", (routine *)sumpheron_closing},
+};
+
+/* ---------------------------------------------------------------- a call */
+
 static long most[FUNCTIONS];
 
 static struct sumpheron_record book[STOCKS];
 static uint32_t times[STOCKS * HELD], prices[STOCKS * HELD], setups[STOCKS * SUMPHERON_SETUP_NUMBERS];
 
-/* The call to be made and its answer, in globals since a context is handed no pointers. */
-static struct { enum function function; uint32_t time, participant, bid, price; } call;
+/* The call to be made and the number it is answered, in globals since a routine takes and returns nothing. */
+static struct { enum function function; uint32_t time, participant, price; } call;
 static uint32_t number;
 static unsigned char stack[SIZE] __attribute__((aligned(64)));
-static ucontext_t here, there;
 
 #define BOOK SUMPHERON_BOOK(book, STOCKS, times, prices)
 
 static void perform(void)
 {
     switch (call.function) {
-    case SETUP: number = sumpheron_setup(BOOK, END, setups, STOCKS * SUMPHERON_SETUP_NUMBERS).number; break;
-    case SETTLE: number = sumpheron_settle(BOOK, 0, call.time).answer.number; break;
-    case READ: number = sumpheron_read(BOOK, 0).number; break;
-    case TRADE: number = sumpheron_trade(BOOK, 0, call.time, call.price).number; break;
-    case QUOTE: number = sumpheron_quote(BOOK, 0, call.time, call.participant, call.bid, call.price).number; break;
-    case OPENING: number = sumpheron_opening(BOOK, 0, call.time, call.participant, call.price).number; break;
-    case PAUSE: number = sumpheron_pause(BOOK, 0, call.time, call.participant).number; break;
-    case REOPENING: number = sumpheron_reopening(BOOK, 0, call.time, call.participant, call.price).number; break;
-    case CLOSING: number = sumpheron_closing(BOOK, 0, call.time, call.participant, call.price).number; break;
-    default: number = SUMPHERON_DONE;
+    case KNOWN: through_known(BOOK, 0, 0, 0, 0, 0); break;
+    case SETUP: number = through_setup(BOOK, END, setups, STOCKS * SUMPHERON_SETUP_NUMBERS).number; break;
+    case SETTLE: number = through_settle(BOOK, 0, call.time).answer.number; break;
+    case READ: number = through_read(BOOK, 0).number; break;
+    case TRADE: number = through_trade(BOOK, 0, call.time, call.price).number; break;
+    case QUOTE: number = through_quote(BOOK, 0, call.time, call.participant, 0, call.price).number; break;
+    case OPENING: number = through_opening(BOOK, 0, call.time, call.participant, call.price).number; break;
+    case PAUSE: number = through_pause(BOOK, 0, call.time, call.participant).number; break;
+    case REOPENING: number = through_reopening(BOOK, 0, call.time, call.participant, call.price).number; break;
+    case CLOSING: number = through_closing(BOOK, 0, call.time, call.participant, call.price).number; break;
+    case FUNCTIONS: break;
     }
+}
+
+static void fail(const char *why)
+{
+    fprintf(stderr, "stack: %s\n", why);
+    exit(1);
 }
 
 /* Makes the call on a filled stack, and notes how deep it went. */
 static uint32_t measure(void)
 {
     memset(stack, PATTERN, SIZE);
-    getcontext(&there);
-    there.uc_stack.ss_sp = stack;
-    there.uc_stack.ss_size = SIZE;
-    there.uc_link = &here;
-    makecontext(&there, perform, 0);
-    swapcontext(&here, &there);
-    long untouched = 0;
-    while (untouched < SIZE && stack[untouched] == PATTERN)
-        untouched++;
-    if (SIZE - untouched > most[call.function])
-        most[call.function] = SIZE - untouched;
+    target = functions[call.function].code;
+    elsewhere(perform, stack + SIZE);
+    const unsigned char *deepest = stack;
+    while (*deepest == PATTERN)
+        deepest++;
+    if (deepest == stack)
+        fail("the stack is too small");
+    long taken = entry + PUSHED_BY_CALL - deepest;
+    if (taken > most[call.function])
+        most[call.function] = taken;
     return number;
 }
+
+/* ---------------------------------------------------------------- the calls */
 
 /* A call that must be done, and leave the first stock in this state. */
 static void run(enum function function, uint32_t time, uint32_t price, uint32_t state)
 {
     call.function = function, call.time = time, call.price = price;
     if (measure() != SUMPHERON_DONE || book[0].state != state) {
-        fprintf(stderr, "%s at %u answered %u, state %u\n", names[function], time, number, book[0].state);
+        fprintf(stderr, "%s at %u answered %u, state %u\n", functions[function].name, time, number, book[0].state);
         exit(1);
     }
 }
@@ -148,15 +217,31 @@ static void paused(uint32_t held)
     settle(END);
 }
 
+static void check_measure(void)
+{
+    call.function = KNOWN;
+    measure();
+    if (most[KNOWN] != KNOWN_BYTES)
+        fail("a function with a known stack is measured wrongly");
+}
+
+static void print_table(void)
+{
+    puts("| function | stack, bytes |\n|---|---|");
+    for (int function = SETUP; function < FUNCTIONS; function++)
+        printf("| %s | %ld |\n", functions[function].name, most[function]);
+#ifndef __x86_64__
+    puts("\nEach has the frame of a C function around the library's (bench/around.py), which the library for x86-64 does not have.");
+#endif
+}
+
 int main(void)
 {
     for (int stock = 0; stock < STOCKS; stock++)
         memcpy(setups + SUMPHERON_SETUP_NUMBERS * stock, (uint32_t[]){1, 1, 0, PRICE}, sizeof(uint32_t[SUMPHERON_SETUP_NUMBERS]));
-    run(EMPTY, 0, 0, SUMPHERON_WAITING);
+    check_measure();
     for (uint32_t held = 0; held <= HELD; held += HELD)
         limits(held), opened(held), paused(held);
     moved();
-    puts("| function | stack, bytes |\n|---|---|");
-    for (int function = SETUP; function < FUNCTIONS; function++)
-        printf("| %s | %ld |\n", names[function], most[function] - most[EMPTY]);
+    print_table();
 }

@@ -189,17 +189,39 @@ def lend_arrays(w, times, prices):
         w.set(array, w.agg(w.load(pointer), w.load(f"_{k + 2}", 1)), slice_typed(f"room{sub(k + 1)}"))
 
 
-def store_back(w, p, d, pointer):
-    """*pointer = d.next; d.ANSWER"""
+def give(w, p, to, *source):
+    """to = source, which holds the answer"""
+    w.set(to, f"of-opd ! {w.load(*source)}", struct_typed("N", f"(r .{p['answer']})", "(is-answer r v is)"))
+
+
+def store_back(w, p, d, pointer, *source):
+    """*pointer = d.next; source"""
     w.add(f"assigns ! (of-opd ! {w.load(d, 1)}) (from ! (hop ! (look ! {w.at(pointer)} refl) (stop !))) (store-raw ! {w.at('cell')} refl {struct_typed('T', '(r .next)', '(is-next r v is)')}) $")
-    w.set("_0", f"of-opd ! {w.load(d, 0)}", struct_typed("N", f"(r .{p['answer']})", "(is-answer r v is)"))
+    give(w, p, "_0", *source)
     w.add("owned ! T.the-row (Is T.the-row) (LL.makes T.the-type T′.the-plain 𝓤 H A) (r .next) _ (is-next r v is) $")
     w.put(0, "own")
 
 
-def leave(w, exits):
-    w.returns(*BOOK_LENT, "final1", "final2")
-    w.add(f"by ! ({exits} r v (zs .1 .0) (zs .1 .1 .0) is e e₁ e₂)" + ")" * w.close)
+def leave(w, exits, known, within=False):
+    w.returns(*BOOK_LENT, "final1", "final2", within=within)
+    w.add(f"by ! ({exits} r v (zs .1 .0) (zs .1 .1 .0) is {known} e₁ e₂)" + ")" * w.close)
+
+
+def unless_refused(w, p, answer, flag):
+    """if answer.NUMBER != 0 { return answer; }: the record is put back as it was"""
+    w.set(flag, f"bin ! {w.load(answer, *p['fields'])} (lit ! tt) tt", "(tt, tt)")
+    w.add(f"guarded ! {w.load(flag)}")
+    arm = w.fork()
+    arm.lam("(λ refused.")
+    give(arm, p, "_0", answer)
+    arm.add("owned ! T.the-row (Is T.the-row) (LL.makes T.the-type T′.the-plain 𝓤 H A) one _ is-one $")
+    arm.put(0, "own")
+    arm.front("cell", "own", "others", "open", "obs", "auth")
+    arm.add(f"elem-back ! T.the-row fullShare ys i noRecord (valT one ∷ []) b o {INSIDE} $ closes-slice ! tt T.the-row ys ys refl b o $")
+    arm.put(6, "obs", "borrow", "token")
+    leave(arm, "exits ys refl", f"(kept-in i n {p['given']} (λ a. a {p['number']}) ({p['unchanged']} {p['v']}) c good (r .next) (zs .1 .0) (zs .1 .1 .0) e refused)", within=True)
+    w.o += arm.o
+    w.lam("(λ accepted.")
 
 
 # ---------------------------------------------------------------- the shapes
@@ -219,34 +241,36 @@ def one(p):
     copy_out(w, "_1", "_6", "h", "was")
     lend_arrays(w, ("_7", "_8"), ("_9", "_10"))
     step(w, p, "goes-step was", "_5", ["_6", "_8", "_10", "_4"])
-    store_back(w, p, "_5", "_1")
+    store_back(w, p, "_5", "_1", "_5", 0)
     w.front("cell", "own", "open", "obs", "auth")
     w.add("closes ! tt T.the-row (r .next) (valT (r .next) ∷ []) b o $")
     w.put(5, "obs", "borrow", "token")
-    leave(w, "exits")
+    leave(w, "exits", "e")
     return w
 
 
 def book(p):
-    """GUARD let d = STEP(book[i], times, prices, i, v); book[i] = d.next; d.ANSWER"""
-    w = lent_book([p["val"]], 20, [p["typed"]])
-    guard(w, p, "_6", "_7", ["_9", "_10", "_11"], "_12", "refuses n r v is c bad z")
+    """GUARD let d = STEP(book[i], times, prices, i, v); let answer = d.ANSWER; if answer.NUMBER != 0 { return answer; } book[i] = d.next; answer"""
+    w = lent_book([p["val"]], 21, [p["typed"]])
+    guard(w, p, "_6", "_7", ["_10", "_11", "_12"], "_13", "refuses n r v is c bad z")
     w.front("obs", "borrow", "token")
     w.lam(f"opens-slice ! tt T.the-row ys b o $ elem-out ! {LAWS} fullShare ys i noRecord b o {INSIDE} (λ is-one.")
     w.put(3, "cell", "own", "others", "open", "obs", "auth")
     w.front("own")
     w.drop()
     w.note()
-    place(w, "_6", "_9", "_13")
-    copy_out(w, "_13", "_14", "one", "is-one")
-    lend_arrays(w, ("_15", "_16"), ("_17", "_18"))
-    step(w, p, "goes-step is-one (inside i n was c good)", "_8", ["_14", "_16", "_18", "_6", "_5"])
-    place(w, "_6", "_10", "_19")
-    store_back(w, p, "_8", "_19")
+    place(w, "_6", "_10", "_14")
+    copy_out(w, "_14", "_15", "one", "is-one")
+    lend_arrays(w, ("_16", "_17"), ("_18", "_19"))
+    step(w, p, "goes-step is-one (inside i n was c good)", "_8", ["_15", "_17", "_19", "_6", "_5"])
+    give(w, p, "_9", "_8", 0)
+    unless_refused(w, p, "_9", "_13")
+    place(w, "_6", "_11", "_20")
+    store_back(w, p, "_8", "_20", "_9")
     w.front("cell", "own", "others", "open", "obs", "auth")
     w.add(f"elem-put ! T.the-row fullShare ys i (r .next) (valT (r .next) ∷ []) b o {INSIDE} $ closes-slice ! tt T.the-row ys (set ys i (r .next)) (length-set ys i (r .next)) b o $")
     w.put(6, "obs", "borrow", "token")
-    leave(w, "exits n c good")
+    leave(w, "exits (set ys i (r .next)) (length-set ys i (r .next))", f"(done-in i n {p['given']} c good (r .next) (zs .1 .0) (zs .1 .1 .0) e)")
     return w
 
 
@@ -289,8 +313,14 @@ TIME = {
     "v": "t", "Value": "ℕ", "row": "u32", "vals": "(uint-vals w32)", "tells": "uint-tells w32",
     "val": "vint w32 t", "makes": "(uint-makes 𝓤 H A W w32)", "typed": number_typed("t-is .1"),
 }
-TELL = {**MESSAGE, "Made": "Told", "Answer": "Answer", "answer": "answer", "outcome": "telling", "refuse": "zeros", "zeros": "zeros"}
-SETTLE = {**TIME, "Made": "Settled", "Answer": "Notice", "answer": "notice", "outcome": "settling", "refuse": "zero_notice", "zeros": "noNotice"}
+TELL = {
+    **MESSAGE, "Made": "Told", "Answer": "Answer", "answer": "answer", "outcome": "telling", "refuse": "zeros", "zeros": "zeros", "Promise": "TellsIn",
+    "fields": [0], "number": ".number", "unchanged": "told-unchanged", "given": "(telling m) zeros was (r .answer)",
+}
+SETTLE = {
+    **TIME, "Made": "Settled", "Answer": "Notice", "answer": "notice", "outcome": "settling", "refuse": "zero_notice", "zeros": "noNotice", "Promise": "SettlesIn",
+    "fields": [0, 0], "number": ".answer .number", "unchanged": "settled-unchanged", "given": "(settling t) noNotice was (r .notice)",
+}
 
 FUNCTIONS = [
     (one, {**TELL, "fn": "tell_one", "step": "told", "promise": "Tells m (bytes h (x₁ .now) (x₂ .now))"}),

@@ -1,8 +1,10 @@
 //! The cases: for each a book, how it comes to its start, and the calls that are timed from there.
 
-use second::{Letter, Message, Setup, Stock, HELD_AT_MOST, PARTICIPANTS};
+use calls::call::Call;
+use generate::chance::Chance;
+use second::{Letter, Message, Setup, HELD_AT_MOST, PARTICIPANTS};
 
-use crate::call::Call;
+use crate::script::Script;
 
 const END: u32 = 23_400_000;
 const PRICE: u32 = 100_000;
@@ -23,35 +25,6 @@ pub struct Case {
     pub counted: usize,
     /// Whether a pass over the held trades is a measure for it.
     pub has_floor: bool,
-}
-
-/// Writes calls down while it plays them, so that later ones can depend on what became of the stock.
-struct Script {
-    book: Vec<Stock>,
-    calls: Vec<Call>,
-}
-
-impl Script {
-    fn tell(&mut self, m: Message) {
-        second::tell(&mut self.book, &m);
-        self.calls.push(Call::Tell(m));
-    }
-
-    fn settle(&mut self, stock: u32, time: u32) -> u32 {
-        self.calls.push(Call::Settle { stock, time });
-        second::settle(&mut self.book, stock, time).answer.number
-    }
-
-    /// Settles until nothing is due, then tells the message.
-    fn settle_and_tell(&mut self, m: Message) {
-        while self.settle(m.stock, m.time) == 0 {}
-        self.tell(m);
-    }
-
-    /// The calls so far, and none from now on.
-    fn cut(&mut self) -> Vec<Call> {
-        std::mem::take(&mut self.calls)
-    }
 }
 
 fn setups(stocks: u32) -> Vec<Setup> {
@@ -93,10 +66,7 @@ fn next_quote(i: u32, stock: u32, time: u32) -> Message {
 
 /// A book of stocks as they are set up.
 fn empty_book(stocks: u32) -> Script {
-    Script {
-        book: second::setup(&setups(stocks), END).expect("the setups are in range"),
-        calls: Vec::new(),
-    }
+    Script::new(&setups(stocks), END)
 }
 
 /// A book of stocks in Trading with all quotes and so many trades each, the last at the clock, and no moment due.
@@ -209,25 +179,12 @@ fn limits() -> Case {
     )
 }
 
-/// Numbers by chance, the same on every machine.
-struct Chance(u64);
-
-impl Chance {
-    /// A number below this one.
-    fn below(&mut self, bound: u32) -> u32 {
-        self.0 ^= self.0 << 13;
-        self.0 ^= self.0 >> 7;
-        self.0 ^= self.0 << 17;
-        (((self.0 >> 32) * u64::from(bound)) >> 32) as u32
-    }
-}
-
 /// Four stocks whose prices walk, a message every 56 milliseconds: 28 of 100 are trades, so that each stock comes to hold some
 /// 370; one in 100 is a trade far outside the bands, and the others are quotes.
 fn day() -> Case {
     const STOCKS: u32 = 4;
     const MESSAGES: u32 = 20_000;
-    let (mut script, mut chance) = (empty_book(STOCKS), Chance(1));
+    let (mut script, mut chance) = (empty_book(STOCKS), Chance::new(1));
     let mut prices = [PRICE; STOCKS as usize];
     for stock in 0..STOCKS {
         script.settle_and_tell(message(Letter::O, stock, 1_000, PRICE));

@@ -2,9 +2,10 @@
 
 use std::process::Command;
 
-use crate::call::{Call, Glance};
+use calls::call::{Call, Glance};
+use calls::sides::{Library, Second, Side};
+
 use crate::cases::{self, Case};
-use crate::sides::{Library, Second, Side};
 
 /// What the program does when it is run to be counted: a side comes to a case's start and plays the calls so many times.
 pub fn run(case: usize, side: &str, times: usize) {

@@ -1,12 +1,14 @@
 //! Times the library's calls against the second implementation and the floor.
 //!
-//!     calls table HEADER           prints a table under this header
+//!     calls table HEADER           prints the cases' table under this header
+//!     calls slowest                prints a table of the slowest single calls
 //!     calls count CASE SIDE TIMES  plays a case's calls so many times, to be counted
 
-mod call;
 mod cases;
 mod count;
-mod sides;
+mod days;
+mod script;
+mod slowest;
 mod timing;
 
 use cases::Case;
@@ -16,8 +18,9 @@ fn main() {
     let words: Vec<&str> = words.iter().map(String::as_str).collect();
     match words[..] {
         ["table", header] => print_table(header),
+        ["slowest"] => print_slowest(),
         ["count", case, side, times] => count::run(number(case), side, number(times)),
-        _ => panic!("usage: calls table HEADER | calls count CASE SIDE TIMES"),
+        _ => panic!("usage: calls table HEADER | calls slowest | calls count CASE SIDE TIMES"),
     }
 }
 
@@ -27,8 +30,8 @@ fn number(word: &str) -> usize {
 
 fn print_table(header: &str) {
     println!("{header}\n");
-    println!("| case | library ns | second ns | floor ns | library/second | library/floor | instructions library | instructions second |");
-    println!("|---|---|---|---|---|---|---|---|");
+    println!("| case | library ns | second ns | floor ns | library/second, median | library/second, least | library/floor, median | library/floor, least | instructions library | instructions second |");
+    println!("|---|---|---|---|---|---|---|---|---|---|");
     let cases: Vec<Case> = cases::ALL.iter().map(|make| make()).collect();
     for (index, (case, times)) in cases.iter().zip(timing::time(&cases)).enumerate() {
         let [one, other] =
@@ -38,7 +41,9 @@ fn print_table(header: &str) {
             cell(Some(times.second), 1),
             cell(times.floor, 1),
             cell(Some(times.to_second), 2),
+            cell(Some(times.library / times.second), 2),
             cell(times.to_floor, 2),
+            cell(times.floor.map(|floor| times.library / floor), 2),
             cell(one, 0),
             cell(other, 0),
         ];
@@ -49,4 +54,17 @@ fn print_table(header: &str) {
 /// A number with so many decimals, or a dash.
 fn cell(value: Option<f64>, decimals: usize) -> String {
     value.map_or("-".to_string(), |value| format!("{value:.decimals$}"))
+}
+
+fn print_slowest() {
+    println!("| slowest call of its kind | calls | library ns | second ns | library/second |");
+    println!("|---|---|---|---|---|");
+    for row in slowest::find() {
+        let (library, second) = (row.library, row.second);
+        let ratio = library as f64 / second as f64;
+        println!(
+            "| {} | {} | {library} | {second} | {ratio:.2} |",
+            row.kind, row.calls
+        );
+    }
 }

@@ -23,14 +23,20 @@ pub trait Side: Clone {
 pub struct Library {
     end: u32,
     setups: Vec<u32>,
-    records: Vec<raw::Record>,
+    pub records: Vec<raw::Record>,
     pub times: Vec<u32>,
     pub prices: Vec<u32>,
 }
 
 impl Library {
+    /// The bytes that every call is lent.
+    pub fn lent(&self) -> usize {
+        let places = size_of_val(&self.times[..]) + size_of_val(&self.prices[..]);
+        size_of_val(&self.records[..]) + places
+    }
+
     #[inline(always)]
-    fn setup(&mut self) -> raw::Answer {
+    pub fn setup(&mut self) -> raw::Answer {
         let (stocks, places) = (self.records.len(), self.times.len());
         let (book, times) = (self.records.as_mut_ptr(), self.times.as_mut_ptr());
         let (prices, setups) = (self.prices.as_mut_ptr(), self.setups.as_ptr());
@@ -44,7 +50,7 @@ impl Library {
     }
 
     #[inline(always)]
-    fn settle(&mut self, stock: u32, time: u32) -> raw::Notice {
+    pub fn settle(&mut self, stock: u32, time: u32) -> raw::Notice {
         let (stocks, places) = (self.records.len(), self.times.len());
         let (book, times) = (self.records.as_mut_ptr(), self.times.as_mut_ptr());
         let prices = self.prices.as_mut_ptr();
@@ -62,7 +68,7 @@ impl Library {
     }
 
     #[inline(always)]
-    fn tell(&mut self, m: &Message) -> raw::Answer {
+    pub fn tell(&mut self, m: &Message) -> raw::Answer {
         let (n, l) = (self.records.len(), self.times.len());
         let (book, t) = (self.records.as_mut_ptr(), self.times.as_mut_ptr());
         let p = self.prices.as_mut_ptr();

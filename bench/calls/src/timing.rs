@@ -2,11 +2,12 @@
 
 use std::time::Duration;
 
-use second::HELD_AT_MOST;
+use calls::call::{Call, Given, Glance};
+use calls::clock::used;
+use calls::sides::{Floor, Library, Second, Side};
+use second::{Setup, HELD_AT_MOST};
 
-use crate::call::{Call, Given, Glance};
 use crate::cases::Case;
-use crate::sides::{Floor, Library, Second, Side};
 
 /// How often all cases are gone through, so that a busy time of the machine is spread over them.
 const SWEEPS: usize = 5;
@@ -22,7 +23,7 @@ struct Start {
     floor: Option<Floor>,
 }
 
-/// Nanoseconds per call, the least of all rounds, and ratios, the median of the rounds'.
+/// Nanoseconds per call, the least of all rounds, and the ratios of the library to the others: the median of the rounds' ratios.
 pub struct Times {
     pub library: f64,
     pub second: f64,
@@ -33,10 +34,7 @@ pub struct Times {
 
 /// Brings both to the case's start, and sees to it that they answer alike up to there and on all calls that are timed.
 fn start(case: &Case) -> Start {
-    let mut library = Library::new(&case.setups, case.end);
-    let mut second = Second::new(&case.setups, case.end);
-    play_alike(&mut library, &mut second, &[Call::Setup]);
-    play_alike(&mut library, &mut second, &case.before);
+    let (mut library, mut second) = start_alike(&case.setups, case.end, &case.before);
     let start = (library.clone(), second.clone());
     let mut passes = Vec::new();
     for call in &case.calls {
@@ -56,33 +54,20 @@ fn start(case: &Case) -> Start {
     }
 }
 
+/// Both sides after setup and these calls, all answered alike.
+pub fn start_alike(setups: &[Setup], end: u32, calls: &[Call]) -> (Library, Second) {
+    let mut library = Library::new(setups, end);
+    let mut second = Second::new(setups, end);
+    play_alike(&mut library, &mut second, &[Call::Setup]);
+    play_alike(&mut library, &mut second, calls);
+    (library, second)
+}
+
 fn play_alike(library: &mut Library, second: &mut Second, calls: &[Call]) {
     let (mut one, mut other): (Vec<Given>, Vec<Given>) = (Vec::new(), Vec::new());
     library.play(calls, &mut one);
     second.play(calls, &mut other);
     assert_eq!(one, other, "the library and the second answer differently");
-}
-
-/// What Linux on 64 bits calls a timespec.
-#[derive(Default)]
-#[repr(C)]
-struct Clock {
-    seconds: i64,
-    nanoseconds: i64,
-}
-
-extern "C" {
-    fn clock_gettime(which: i32, clock: *mut Clock) -> i32;
-}
-
-/// The processor's time that this thread has used, so that what others use in between does not count.
-fn used() -> Duration {
-    const OF_THIS_THREAD: i32 = 3;
-    let mut clock = Clock::default();
-    // SAFETY: the pointer is to a timespec.
-    let failed = unsafe { clock_gettime(OF_THIS_THREAD, &mut clock) };
-    assert_eq!(failed, 0);
-    Duration::new(clock.seconds as u64, clock.nanoseconds as u32)
 }
 
 /// The nanoseconds of the shortest stretch in one turn.

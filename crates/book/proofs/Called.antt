@@ -3,18 +3,21 @@
 use Prim.Native.Nat.{ℕ, _+_, _*_, _<_, _≤_}
 use mathlib.Core.Bool.{Bool, true, false, not}
 use mathlib.Core.List.{List}
-use mathlib.Core.Path.{_≡_, refl, sym, _∙_}
-use borrow.Author.Tests.{eq-eqb, leb-false}
+use mathlib.Core.Path.{_≡_, refl, sym, ap, _∙_}
+use borrow.Author.Tests.{eq-eqb, eqb-false, leb-false}
 use native.Mathlib.Omega.{arith}
 use lib.Dec.{T, eqb, eqb→eq}
-use lib.ListN.{length, set}
+use lib.ListN.{length, getD, set}
+use lib.Seq.{set-getD}
 use Rattle.forms.proofs.Choice.{if-true, if-false, goes, passes, any-head, any-tail, eq-of-not}
 use Rattle.forms.proofs.Checks.{beyond}
 use Rattle.rules.specs.Numbers.{badShape, callChecks, zeros}
 use Rattle.rules.specs.declared.Answer.{Answer}
-use Rattle.stock.specs.View.{Bytes, Outcome, reading}
+use Rattle.rules.specs.declared.Message.{Message}
+use Rattle.stock.specs.View.{Bytes, Outcome, telling, settling, reading}
 use Rattle.stock.specs.declared.Record.{Record}
-use Rattle.book.specs.Lent.{Lent, lent, Given, bytesOf, callNumber, calling, readingIn, Placed}
+use Rattle.stock.proofs.Laws as stock
+use Rattle.book.specs.Lent.{Lent, lent, noRecord, Given, bytesOf, callNumber, calling, readingIn, Placed}
 
 -- ------------------------------------------------------------------ the test of the number
 
@@ -74,6 +77,22 @@ module _ {A : Type 0} (i n : ℕ) (step : Bytes → Outcome A) (beside : ℕ →
       → _≡_ {A = Given A} (record { answer = a; book = b }) (calling i step beside b)
   unfolding calling
   refused-in e t q = rw (if-false (eqb (callNumber i b) 0) _ _ (stops i n b e t)) (rw q (rw e refl))
+
+  -- a step that leaves the bytes where it refuses leaves the record, which is not stored
+  pub kept-in : (number : A → ℕ) → ((x : Bytes) → ¬ (number (step x .answer) ≡ 0) → step x .bytes ≡ x) → n ≡ callNumber i b → T (not (not (eqb n 0)))
+      → (kept : Record) (times prices : List ℕ) → Placed i (step (bytesOf i b)) (b .times) (b .prices) a kept times prices → T (not (eqb (number a) 0))
+      → _≡_ {A = Given A} (record { answer = a; book = lent (b .records) times prices }) (calling i step beside b)
+  kept-in number unchanged e t kept times prices p z =
+      let refused : ¬ (number (step (bytesOf i b) .answer) ≡ 0) = rw (← p .answer) (eqb-false (number a) 0 (not-zero (number a) z)) in
+      let same : kept ≡ getD (b .records) i noRecord = p .next ∙ ap (λ (x : Bytes). x .kept) (unchanged (bytesOf i b) refused) in
+      let stays : set (b .records) i kept ≡ b .records = rw same (set-getD (b .records) i noRecord) in
+      ap (λ records. record { answer = a; book = lent records times prices }) (sym stays) ∙ done-in e t kept times prices p
+
+pub told-unchanged : (m : Message) (x : Bytes) → ¬ (telling m x .answer .number ≡ 0) → telling m x .bytes ≡ x
+told-unchanged m x = stock.laws .told-refused m x (record { answer = telling m x .answer; next = telling m x .bytes .kept }) _ _ refl
+
+pub settled-unchanged : (time : ℕ) (x : Bytes) → ¬ (settling time x .answer .answer .number ≡ 0) → settling time x .bytes ≡ x
+settled-unchanged time x = stock.laws .settled-refused time x (record { notice = settling time x .answer; next = settling time x .bytes .kept }) _ _ refl
 
 -- ------------------------------------------------------------------ what reading gives
 

@@ -68,8 +68,12 @@ pub fn tell(
         return step::zeros(number);
     }
     let d = step::told_at(book[i], times, prices, i, message);
+    let answer = d.answer;
+    if answer.number != 0 {
+        return answer;
+    }
     book[i] = d.next;
-    d.answer
+    answer
 }
 
 // Settles a stock of the lent book to a time.
@@ -88,8 +92,12 @@ pub fn settle(
         return step::zero_notice(number);
     }
     let d = step::settled_at(book[i], times, prices, i, time);
+    let notice = d.notice;
+    if notice.answer.number != 0 {
+        return notice;
+    }
     book[i] = d.next;
-    d.notice
+    notice
 }
 
 // Reads a stock of the lent book, and changes nothing.

@@ -5,3 +5,4 @@ pub mod Loops
 pub mod Promises
 pub mod Bools
 pub mod Decides
+pub mod Bits

@@ -3,24 +3,27 @@
 ghost use mathlib.Core.Path.{_≡_};
 ghost use Rattle.forms.specs.Checks.{first};
 ghost use Rattle.rules.specs.Messages.{timeOf};
-ghost use Rattle.rules.specs.Moments.{next};
 ghost use Rattle.rules.specs.Numbers.{badEnd, badSetup, messageChecks, timeChecks};
-ghost use Rattle.judge.specs.Rubbish.{rubbishBy};
+ghost use Rattle.quotes.specs.Parts.{stockOf, bare};
+ghost use Rattle.judge.specs.Verdict.{verdictOf};
+use quotes::Kept;
 use rules::Figures;
 use rules::LAST_PARTICIPANT;
-use rules::LATE;
-use rules::LIMIT;
-use rules::MARK_W;
-use rules::MARK_Z;
 use rules::Message;
 use rules::Moment;
+use rules::Quotes;
 use rules::Setup;
-use rules::Stock;
 
 mod message;
 mod moment;
 mod range;
 mod table;
+
+// What is found of a stock: its earliest moment, mark 0 where there is none, and whether it is rubbish.
+pub struct Verdict {
+    pub earliest: Moment,
+    pub rubbish: bool,
+}
 
 // The message's time.
 pub fn time_of(m: Message) -> u32
@@ -34,20 +37,6 @@ pub fn time_of(m: Message) -> u32
         Message::Reopening { time, .. } => time,
         Message::Closing { time, .. } => time,
     }
-}
-
-// The earliest moment still to come, with the window's figures; mark 0 where there is none.
-pub fn next_moment(f: Figures, s: Stock) -> Moment
-    ensures { λ r. ⌜ r ≡ next f s ⌝ }
-{
-    let state = s.course.state;
-    let clock = s.course.clock as u64;
-    let end = s.end as u64;
-    let edge = moment::minus(end, 1_500_000);
-    let x = moment::from_x(f, s);
-    let late = moment::sooner(MARK_W, edge, (state <= LATE) & (clock < edge), x);
-    let early = moment::sooner(MARK_W, 900_000, (state <= LATE) & (clock < 900_000), late);
-    moment::sooner(MARK_Z, end, state <= LIMIT, early)
 }
 
 // Whether a session's end is out of range.
@@ -74,42 +63,49 @@ pub fn bad_setup(u: Setup) -> bool
         | close
 }
 
-// Whether a stock is rubbish, its trades left aside: `earliest` is its next moment.
-pub fn is_rubbish(earliest: Moment, s: Stock) -> bool
-    ensures { λ r. ⌜ r ≡ rubbishBy earliest s ⌝ }
+// The judgement of a stock, its trades left aside but for their figures.
+pub fn judged(f: Figures, k: Kept, q: Quotes) -> Verdict
+    ensures { λ r. ⌜ r ≡ verdictOf f (stockOf k q) ⌝ }
 {
-    range::bad_stock(s) | moment::is_past(s.course.clock, earliest)
+    let earliest = moment::next(f, k);
+    let kept = range::bad_kept(k);
+    let quotes = range::bad_quotes(q);
+    let past = moment::is_past(k.course.clock, earliest);
+    Verdict {
+        earliest,
+        rubbish: kept | quotes | past,
+    }
 }
 
 // The number that refuses a message to a stock that is no rubbish, 0 where it is accepted.
-pub fn message_refusal(m: Message, held: u32, earliest: Moment, s: Stock) -> u32
-    ensures { λ r. ⌜ r ≡ first (messageChecks m held earliest s) ⌝ }
+pub fn message_refusal(m: Message, held: u32, earliest: Moment, k: Kept, q: Quotes) -> u32
+    ensures { λ r. ⌜ r ≡ first (messageChecks m held earliest (stockOf k q)) ⌝ }
 {
     let time = time_of(m);
-    if message::out_of_range(s.end, m) {
+    if message::out_of_range(k.end, m) {
         return 4;
     }
-    if time < s.course.clock {
+    if time < k.course.clock {
         return 5;
     }
     if moment::is_due(time, earliest) {
         return 6;
     }
-    if message::not_primary(s.setup.primary, m) {
+    if message::not_primary(k.setup.primary, m) {
         return 8;
     }
-    let number = table::taken(message::kind_of(m), s.course.state);
+    let number = table::taken(message::kind_of(m), k.course.state);
     if number != 0 {
         return number;
     }
-    message::own_refusal(m, held, s)
+    message::own_refusal(m, held, k, q)
 }
 
 // The number that refuses to settle a stock that is no rubbish to a time, 0 where its next moment is due.
-pub fn settle_refusal(time: u32, earliest: Moment, s: Stock) -> u32
-    ensures { λ r. ⌜ r ≡ first (timeChecks time earliest s) ⌝ }
+pub fn settle_refusal(time: u32, earliest: Moment, k: Kept) -> u32
+    ensures { λ r. ⌜ r ≡ first (timeChecks time earliest (bare k)) ⌝ }
 {
-    if range::not_time(s.end, time) {
+    if range::not_time(k.end, time) {
         return 4;
     }
     if moment::is_due(time, earliest) {

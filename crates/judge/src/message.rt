@@ -9,11 +9,13 @@ ghost use Rattle.rules.specs.Messages.{kind};
 ghost use Rattle.rules.specs.Quotes.{straddle};
 ghost use Rattle.rules.specs.Numbers.{notParticipant, notPrice, notTime, outOfRange, notPrimary, ownChecks};
 ghost use Rattle.rules.specs.declared.Message.the-variants.{Trade};
+ghost use Rattle.quotes.specs.Parts.{stockOf};
 use crate::range;
+use quotes::Kept;
 use rules::HIGHEST_PRICE;
 use rules::LAST_PARTICIPANT;
 use rules::Message;
-use rules::Stock;
+use rules::Quotes;
 
 // The message's row of the table.
 pub(crate) fn kind_of(m: Message) -> usize
@@ -96,10 +98,11 @@ fn last_check(number: u32, applies: bool) -> u32
 }
 
 // Of T: 12 outside bands in force, 13 with 512 trades held.
-fn trade_refusal(price: u32, held: u32, s: Stock) -> u32
-    ensures { λ r. ⌜ ((time : ℕ) → r ≡ first (ownChecks (Trade time price) held s)) ⌝ }
+fn trade_refusal(price: u32, held: u32, k: Kept) -> u32
+    ensures { λ r. ⌜ ((time : ℕ) (q : Quotes) → r ≡ first (ownChecks (Trade time price) held (stockOf k q))) ⌝ }
 {
-    let outside = quotes::is_outside(s, price);
+    let basis = quotes::basis_of(k);
+    let outside = quotes::is_outside(basis, price);
     if outside {
         return 12;
     }
@@ -110,24 +113,26 @@ fn trade_refusal(price: u32, held: u32, s: Stock) -> u32
 }
 
 // Whether a side has flag 2, which P needs.
-fn is_straddle(s: Stock) -> bool
-    ensures { λ r. ⌜ r ≡ straddle s ⌝ }
+fn is_straddle(k: Kept, q: Quotes) -> bool
+    ensures { λ r. ⌜ r ≡ straddle (stockOf k q) ⌝ }
 {
-    let best = quotes::best_of(s);
+    let basis = quotes::basis_of(k);
+    let shown = quotes::show(basis, q);
+    let best = shown.best;
     (best.bid.flag == 2) | (best.offer.flag == 2)
 }
 
 // The number of the message's own checks, 0 where none applies.
-pub(crate) fn own_refusal(m: Message, held: u32, s: Stock) -> u32
-    ensures { λ r. ⌜ r ≡ first (ownChecks m held s) ⌝ }
+pub(crate) fn own_refusal(m: Message, held: u32, k: Kept, q: Quotes) -> u32
+    ensures { λ r. ⌜ r ≡ first (ownChecks m held (stockOf k q)) ⌝ }
 {
-    let pause = s.course.pause as u64;
-    let end = s.end;
+    let pause = k.course.pause as u64;
+    let end = k.end;
     match m {
-        Message::Trade { price, .. } => trade_refusal(price, held, s),
+        Message::Trade { price, .. } => trade_refusal(price, held, k),
         Message::Quote { .. } => 0,
         Message::Opening { time, .. } => last_check(9, 300_000 <= time),
-        Message::Pause { .. } => last_check(9, !is_straddle(s)),
+        Message::Pause { .. } => last_check(9, !is_straddle(k, q)),
         Message::Reopening { time, .. } => last_check(10, (time as u64) < pause + 300_000),
         Message::Closing { time, .. } => last_check(10, time < end),
     }

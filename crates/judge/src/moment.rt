@@ -1,9 +1,11 @@
-// The table of moments from its last row up to x, and what a time makes of a moment.
+// The table of moments, from its last row up, and what a time makes of a moment.
 ghost use Prim.Native.Nat.{_-_};
 ghost use mathlib.Core.Path.{_≡_};
 ghost use lib.ListN.{drop};
 ghost use Rattle.rules.specs.Moments as moments;
 ghost use Rattle.rules.specs.Moments.{_at_while_, momentTable, earliest, dueBy, pastAt};
+ghost use Rattle.quotes.specs.Parts.{bare};
+use quotes::Kept;
 use rules::Figures;
 use rules::LATE;
 use rules::LIMIT;
@@ -12,10 +14,11 @@ use rules::MARK_F;
 use rules::MARK_H;
 use rules::MARK_P;
 use rules::MARK_V;
+use rules::MARK_W;
 use rules::MARK_X;
+use rules::MARK_Z;
 use rules::Moment;
 use rules::PAUSED;
-use rules::Stock;
 use rules::TRADING;
 use rules::WAITING;
 
@@ -30,7 +33,7 @@ pub(crate) fn minus(x: u64, y: u64) -> u64
 }
 
 // A row before what the rows after it give.
-pub(crate) fn sooner(mark: u32, time: u64, comes: bool, after: Moment) -> Moment
+fn sooner(mark: u32, time: u64, comes: bool, after: Moment) -> Moment
     ensures { λ r. ⌜ r ≡ moments.sooner (mark at time while comes) after ⌝ }
 {
     if comes & ((after.mark == 0) | (time <= after.time)) {
@@ -40,13 +43,13 @@ pub(crate) fn sooner(mark: u32, time: u64, comes: bool, after: Moment) -> Moment
 }
 
 // The earliest of v, f and h.
-fn from_v(f: Figures, s: Stock) -> Moment
-    ensures { λ r. ⌜ r ≡ earliest (drop 6 (momentTable f s)) ⌝ }
+fn from_v(f: Figures, k: Kept) -> Moment
+    ensures { λ r. ⌜ r ≡ earliest (drop 6 (momentTable f (bare k))) ⌝ }
 {
-    let state = s.course.state;
-    let early = s.course.early;
-    let start = s.reference.start as u64;
-    let hold = s.reference.hold;
+    let state = k.course.state;
+    let early = k.course.early;
+    let start = k.reference.start as u64;
+    let hold = k.reference.hold;
     let oldest = f.oldest as u64;
     let count = f.count;
     let none = Moment { mark: 0, time: 0 };
@@ -61,17 +64,31 @@ fn from_v(f: Figures, s: Stock) -> Moment
 }
 
 // The earliest of x, p and c and of those after them.
-pub(crate) fn from_x(f: Figures, s: Stock) -> Moment
-    ensures { λ r. ⌜ r ≡ earliest (drop 3 (momentTable f s)) ⌝ }
+fn from_x(f: Figures, k: Kept) -> Moment
+    ensures { λ r. ⌜ r ≡ earliest (drop 3 (momentTable f (bare k))) ⌝ }
 {
-    let state = s.course.state;
-    let entry = s.course.entry as u64;
-    let pause = s.course.pause as u64;
-    let end = s.end as u64;
-    let v = from_v(f, s);
+    let state = k.course.state;
+    let entry = k.course.entry as u64;
+    let pause = k.course.pause as u64;
+    let end = k.end as u64;
+    let v = from_v(f, k);
     let c = sooner(MARK_C, end + 300_000, state == LATE, v);
     let p = sooner(MARK_P, pause + 600_000, state == PAUSED, c);
     sooner(MARK_X, entry + 15_000, state == LIMIT, p)
+}
+
+// The earliest moment still to come, with the window's figures; mark 0 where there is none.
+pub(crate) fn next(f: Figures, k: Kept) -> Moment
+    ensures { λ r. ⌜ r ≡ moments.next f (bare k) ⌝ }
+{
+    let state = k.course.state;
+    let clock = k.course.clock as u64;
+    let end = k.end as u64;
+    let edge = minus(end, 1_500_000);
+    let x = from_x(f, k);
+    let late = sooner(MARK_W, edge, (state <= LATE) & (clock < edge), x);
+    let early = sooner(MARK_W, 900_000, (state <= LATE) & (clock < 900_000), late);
+    sooner(MARK_Z, end, state <= LIMIT, early)
 }
 
 // Whether there is a moment that is not after the time.

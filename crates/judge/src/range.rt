@@ -1,16 +1,17 @@
 // What is out of range, and of a stock, its window left aside, what is rubbish.
 ghost use mathlib.Core.Path.{_≡_};
 ghost use mathlib.Core.List.{foldl};
-ghost use lib.Dec.{ltb};
-ghost use Rattle.forms.specs.Choice.{if_then_else_};
+ghost use mathlib.Core.Bool.{false};
+ghost use Prim.Native.Nat.{_≤_};
+ghost use Rattle.quotes.specs.Parts.{bare};
 ghost use Rattle.rules.specs.Numbers.{notPrice, notTime, badTimes, orNotSide, badQuotes, badReference, badStock};
 use crate::moment;
+use quotes::Kept;
 use rules::CLOSED;
 use rules::HIGHEST_PRICE;
 use rules::LATE;
 use rules::PAUSED;
 use rules::Quotes;
-use rules::Stock;
 use rules::TRADING;
 
 // Whether a number is no price.
@@ -28,74 +29,72 @@ pub(crate) fn not_time(end: u32, time: u32) -> bool
 }
 
 // Whether a kept time is out of range, a stale one too.
-fn bad_times(s: Stock) -> bool
-    ensures { λ r. ⌜ r ≡ badTimes s ⌝ }
+fn bad_times(k: Kept) -> bool
+    ensures { λ r. ⌜ r ≡ badTimes (bare k) ⌝ }
 {
-    let last = (s.end as u64) + 300_000;
-    let clock = s.course.clock as u64;
-    let start = s.reference.start as u64;
-    let entry = s.course.entry as u64;
-    let pause = s.course.pause as u64;
+    let last = (k.end as u64) + 300_000;
+    let clock = k.course.clock as u64;
+    let start = k.reference.start as u64;
+    let entry = k.course.entry as u64;
+    let pause = k.course.pause as u64;
     (last < clock) | (last < start) | (last < entry) | (last < pause)
 }
 
-// The greater of two numbers.
-fn greater(a: u32, b: u32) -> u32
-    ensures { λ r. ⌜ r ≡ (if ltb a b then b else a) ⌝ }
+// All bits that the sides have: where they make no number out of range, no side is.
+fn bits_of(sides: [u32; 16]) -> u32
+    ensures { λ r. ⌜ (r ≤ 999_999_999 → foldl orNotSide false sides ≡ false) ⌝ }
 {
-    if a < b {
-        return b;
+    let mut bits: u32 = 0;
+    for i in 0..16 {
+        bits = bits | sides[i];
     }
-    a
+    bits
 }
 
-// Whether one was bad before, or one of the sides is out of range: the highest is, where one is.
+// Whether one was bad before, or one of the sides is out of range.
 fn or_not_sides(bad: bool, sides: [u32; 16]) -> bool
     ensures { λ r. ⌜ r ≡ foldl orNotSide bad sides ⌝ }
 {
-    let mut most: u32 = 0;
+    let mut any = bad;
     for i in 0..16 {
-        most = greater(most, sides[i]);
+        any = any | (HIGHEST_PRICE < sides[i]);
     }
-    bad | (HIGHEST_PRICE < most)
+    any
 }
 
-// Whether a bid or an offer is out of range.
-fn bad_quotes(q: Quotes) -> bool
+// Whether a bid or an offer is out of range; one look at the bits of all is nearly always enough.
+pub(crate) fn bad_quotes(q: Quotes) -> bool
     ensures { λ r. ⌜ r ≡ badQuotes q ⌝ }
 {
     let bids = q.bids;
     let offers = q.offers;
+    let bits = bits_of(bids) | bits_of(offers);
+    if bits <= HIGHEST_PRICE {
+        return false;
+    }
     let bad = or_not_sides(false, bids);
     or_not_sides(bad, offers)
 }
 
 // Whether the reference is over the price range, or missing where there must be one.
-fn bad_reference(s: Stock) -> bool
-    ensures { λ r. ⌜ r ≡ badReference s ⌝ }
+fn bad_reference(k: Kept) -> bool
+    ensures { λ r. ⌜ r ≡ badReference (bare k) ⌝ }
 {
-    let state = s.course.state;
-    let price = s.reference.price;
+    let state = k.course.state;
+    let price = k.reference.price;
     (HIGHEST_PRICE < price) | ((price == 0) & (TRADING <= state) & (state <= LATE))
 }
 
 // Whether the setup, the end or one of these is bad, or the state, or a pause that began too late for its state.
-pub(crate) fn bad_stock(s: Stock) -> bool
-    ensures { λ r. ⌜ r ≡ badStock s ⌝ }
+pub(crate) fn bad_kept(k: Kept) -> bool
+    ensures { λ r. ⌜ r ≡ badStock (bare k) ⌝ }
 {
-    let state = s.course.state;
-    let pause = s.course.pause as u64;
-    let setup = crate::bad_setup(s.setup);
-    let end = crate::bad_end(s.end);
-    let times = bad_times(s);
-    let quotes = bad_quotes(s.quotes);
-    let reference = bad_reference(s);
-    let edge = moment::minus(s.end as u64, 600_000);
-    (CLOSED < state)
-        | setup
-        | end
-        | times
-        | quotes
-        | reference
-        | ((state == PAUSED) & (edge <= pause))
+    let state = k.course.state;
+    let pause = k.course.pause as u64;
+    let setup = crate::bad_setup(k.setup);
+    let end = crate::bad_end(k.end);
+    let times = bad_times(k);
+    let reference = bad_reference(k);
+    let edge = moment::minus(k.end as u64, 600_000);
+    (CLOSED < state) | setup | end | times | reference | ((state == PAUSED) & (edge <= pause))
 }

@@ -3,14 +3,47 @@
 use Prim.Native.Nat.{ℕ}
 use mathlib.Core.Path.{_≡_}
 use Rattle.forms.specs.Promises.{Determines}
-use Rattle.rules.specs.Quotes.{bandsIn, bestOf}
+use Rattle.forms.specs.Words.{_and_}
+use Rattle.rules.specs.Stock.{Trading, stateOf, enter-limit}
+use Rattle.rules.specs.States.{noQuotes}
 use Rattle.rules.specs.Numbers.{outside}
+use Rattle.rules.specs.declared.Quotes.{Quotes}
 use Rattle.rules.specs.declared.Stock.{Stock}
+use Rattle.quotes.specs.Parts.{stockOf, keptOf, basisOf, stockBy}
 use Rattle.quotes.specs.Shown.{shownOf}
+use Rattle.quotes.specs.declared.Basis.{Basis}
+use Rattle.quotes.specs.declared.Kept.{Kept}
+
+-- a stock that is put together has the parts that were given for it, and a stock is all that its parts are
+abbrev pub PartsAre : Type 0
+PartsAre = (k : Kept) (q : Quotes) → keptOf (stockOf k q) ≡ k and stockOf k q .quotes ≡ q
+
+abbrev pub PartsAreAll : Type 0
+PartsAreAll = (s : Stock) → stockOf (keptOf s) (s .quotes) ≡ s
+
+-- the same of one that is put together from a basis
+abbrev pub BasisIs : Type 0
+BasisIs = (b : Basis) (q : Quotes) → basisOf (keptOf (stockBy b q)) ≡ b and stockBy b q .quotes ≡ q
+
+-- what a stock shows goes by its basis and its quotes alone, and so does which price is outside its bands
+abbrev pub ShownByBasis : Type 0
+ShownByBasis = (k : Kept) (q : Quotes) → shownOf (stockBy (basisOf k) q) ≡ shownOf (stockOf k q)
+
+abbrev pub OutsideByBasis : Type 0
+OutsideByBasis = (k : Kept) (q : Quotes) (price : ℕ) → outside (stockBy (basisOf k) noQuotes) price ≡ outside (stockOf k q) price
+
+-- "In Limit .. bands don't change (k is that of the entry's time)": to enter Limit changes nothing that is shown
+abbrev pub LimitShowsTheSame : Type 0
+LimitShowsTheSame = (s : Stock) → stateOf s ≡ Trading → shownOf (enter-limit s) ≡ shownOf s
 
 pub record Laws : Type 0 where
+  pub parts-are : PartsAre
+  pub parts-are-all : PartsAreAll
+  pub basis-is : BasisIs
+  pub shown-by-basis : ShownByBasis
+  pub outside-by-basis : OutsideByBasis
+  pub limit-shows-the-same : LimitShowsTheSame
   -- two results that a promise of src/lib.rt allows agree ("How much a promise says")
-  pub bands-in-determined : (s : Stock) → Determines (λ r. r ≡ bandsIn s)
-  pub show-determined : (s : Stock) → Determines (λ r. r ≡ shownOf s)
-  pub best-of-determined : (s : Stock) → Determines (λ r. r ≡ bestOf s)
-  pub is-outside-determined : (s : Stock) (price : ℕ) → Determines (λ r. r ≡ outside s price)
+  pub basis-of-determined : (k : Kept) → Determines (λ r. r ≡ basisOf k)
+  pub show-determined : (b : Basis) (q : Quotes) → Determines (λ r. r ≡ shownOf (stockBy b q))
+  pub is-outside-determined : (b : Basis) (price : ℕ) → Determines (λ r. r ≡ outside (stockBy b noQuotes) price)

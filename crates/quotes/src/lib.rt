@@ -1,15 +1,40 @@
-// What a stock shows: the bands in force, and the best bid and the best offer with their flags. No public
-// function has a `requires`: each gives for every stock what the rules of quotes say of it.
+// What a stock shows: the bands in force, and the best bid and the best offer with their flags. A function takes
+// the parts of a stock that it asks, never the whole. No public function has a `requires`: each gives for every
+// input what the rules of quotes say of the stock that has these parts.
 ghost use mathlib.Core.Path.{_≡_};
-ghost use Rattle.rules.specs.Quotes.{bandsIn, bestOf};
+ghost use Rattle.rules.specs.States.{noQuotes};
 ghost use Rattle.rules.specs.Numbers.{outside};
+ghost use Rattle.quotes.specs.Parts.{basisOf, stockBy};
 ghost use Rattle.quotes.specs.Shown.{shownOf};
 use band::Limits;
 use rules::Best;
+use rules::Course;
+use rules::Quotes;
+use rules::Reference;
+use rules::Setup;
 use rules::Side;
-use rules::Stock;
 
 mod side;
+
+// A stock without its quotes.
+pub struct Kept {
+    pub setup: Setup,
+    pub end: u32,
+    pub course: Course,
+    pub reference: Reference,
+}
+
+// What the bands go by.
+pub struct Basis {
+    pub tier: u32,
+    pub leverage: u32,
+    pub close: u32,
+    pub end: u32,
+    pub state: u32,
+    pub clock: u32,
+    pub entry: u32,
+    pub price: u32,
+}
 
 // What a stock shows.
 pub struct Shown {
@@ -17,58 +42,53 @@ pub struct Shown {
     pub best: Best,
 }
 
-// The lower and the upper band in force, zeros where none are.
-pub fn bands_in(s: Stock) -> Limits
-    ensures { λ r. ⌜ r ≡ bandsIn s ⌝ }
+// What the bands of a stock go by.
+pub fn basis_of(k: Kept) -> Basis
+    ensures { λ r. ⌜ r ≡ basisOf k ⌝ }
 {
-    if side::in_force(s) {
-        let percent = band::percent(s.setup.tier, s.setup.close);
-        let time = side::k_time(s);
-        let k = band::factor(s.setup.leverage, time, s.end);
-        return band::bands(s.reference.price, percent, k);
+    Basis {
+        tier: k.setup.tier,
+        leverage: k.setup.leverage,
+        close: k.setup.close,
+        end: k.end,
+        state: k.course.state,
+        clock: k.course.clock,
+        entry: k.course.entry,
+        price: k.reference.price,
     }
-    Limits { lower: 0, upper: 0 }
 }
 
 // The bands in force, and the best bid and the best offer, each with its flag.
-pub fn show(s: Stock) -> Shown
-    ensures { λ r. ⌜ r ≡ shownOf s ⌝ }
+pub fn show(b: Basis, q: Quotes) -> Shown
+    ensures { λ r. ⌜ r ≡ shownOf (stockBy b q) ⌝ }
 {
-    let on = side::in_force(s);
-    let bands = bands_in(s);
-    let bids = s.quotes.bids;
-    let offers = s.quotes.offers;
+    let on = side::in_force(b);
+    let bands = side::bands_in(b);
+    let bids = q.bids;
+    let offers = q.offers;
     let bid = side::best_bid(on, bands.upper, bids);
     let offer = side::best_offer(on, bands.lower, offers);
-    let b = side::bid_flag(on, bands, bid);
-    let o = side::offer_flag(on, bands, offer);
+    let bid_flag = side::bid_flag(on, bands, bid);
+    let offer_flag = side::offer_flag(on, bands, offer);
     let best = Best {
         bid: Side {
             price: bid,
-            flag: b,
+            flag: bid_flag,
         },
         offer: Side {
             price: offer,
-            flag: o,
+            flag: offer_flag,
         },
     };
     Shown { bands, best }
 }
 
-// The best bid and the best offer alone.
-pub fn best_of(s: Stock) -> Best
-    ensures { λ r. ⌜ r ≡ bestOf s ⌝ }
-{
-    let r = show(s);
-    r.best
-}
-
 // Whether a price is outside bands in force.
-pub fn is_outside(s: Stock, price: u32) -> bool
-    ensures { λ r. ⌜ r ≡ outside s price ⌝ }
+pub fn is_outside(b: Basis, price: u32) -> bool
+    ensures { λ r. ⌜ r ≡ outside (stockBy b noQuotes) price ⌝ }
 {
-    let on = side::in_force(s);
-    let bands = bands_in(s);
+    let on = side::in_force(b);
+    let bands = side::bands_in(b);
     let p = price as u64;
     on & ((p < bands.lower) | (bands.upper < p))
 }

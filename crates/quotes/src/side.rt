@@ -1,18 +1,20 @@
-// One side of the quotes, and when bands are in force.
+// Bands in force, and one side of the quotes.
 ghost use Prim.Native.Nat.{_+_, _-_, _%_, _≤_, min};
 ghost use mathlib.Core.Path.{_≡_};
 ghost use Rattle.forms.specs.Choice.{if_then_else_};
-ghost use Rattle.rules.specs.Quotes.{inForce, kTime, bestBid, bestOffer, bidFlag, offerFlag};
+ghost use Rattle.rules.specs.Quotes.{inForce, kTime, bandsIn, bestBid, bestOffer, bidFlag, offerFlag};
+ghost use Rattle.rules.specs.States.{noQuotes};
+ghost use Rattle.quotes.specs.Parts.{stockBy};
+use crate::Basis;
 use band::Limits;
 use rules::LIMIT;
-use rules::Stock;
 use rules::TRADING;
 
 // Whether bands are in force.
-pub(crate) fn in_force(s: Stock) -> bool
-    ensures { λ r. ⌜ r ≡ inForce s ⌝ }
+pub(crate) fn in_force(b: Basis) -> bool
+    ensures { λ r. ⌜ r ≡ inForce (stockBy b noQuotes) ⌝ }
 {
-    let state = s.course.state;
+    let state = b.state;
     if state == TRADING {
         return true;
     }
@@ -20,14 +22,26 @@ pub(crate) fn in_force(s: Stock) -> bool
 }
 
 // The time that decides k.
-pub(crate) fn k_time(s: Stock) -> u32
-    ensures { λ r. ⌜ r ≡ kTime s ⌝ }
+fn k_time(b: Basis) -> u32
+    ensures { λ r. ⌜ r ≡ kTime (stockBy b noQuotes) ⌝ }
 {
-    let c = s.course;
-    if c.state == LIMIT {
-        return c.entry;
+    if b.state == LIMIT {
+        return b.entry;
     }
-    c.clock
+    b.clock
+}
+
+// The lower and the upper band in force, zeros where none are.
+pub(crate) fn bands_in(b: Basis) -> Limits
+    ensures { λ r. ⌜ r ≡ bandsIn (stockBy b noQuotes) ⌝ }
+{
+    if in_force(b) {
+        let percent = band::percent(b.tier, b.close);
+        let time = k_time(b);
+        let k = band::factor(b.leverage, time, b.end);
+        return band::bands(b.price, percent, k);
+    }
+    Limits { lower: 0, upper: 0 }
 }
 
 // The price, or the greatest that 32 bits hold.

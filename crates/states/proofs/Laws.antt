@@ -1,15 +1,19 @@
 -- The laws of specs/Laws.antt.
 -- Assumes nothing.
-use mathlib.Core.Path.{refl}
+use mathlib.Core.Path.{_≡_, refl}
 use borrow.Author.Tests.{le-ltb}
-use Rattle.forms.proofs.Choice.{if-false}
+use Rattle.forms.proofs.Choice.{if-false, if-arms, all-eqb}
 use Rattle.forms.proofs.Promises.{agree}
-use Rattle.rules.specs.Stock.{at-time}
+use Rattle.rules.specs.Stock.{at-time, enter-limit}
+use Rattle.rules.specs.States.{look}
 use Rattle.rules.specs.Moments.{effect}
 use Rattle.rules.specs.Messages.{does, after}
 use Rattle.rules.specs.declared.Message.the-variants.{Trade as T, Quote as Q, Opening as O, Pause as P, Reopening as R, Closing as X}
-use Rattle.states.specs.After.{fit, effectAt, effectOf}
-use Rattle.states.specs.Laws.{AsTheRules, FitsAsItIs, Laws}
+use Rattle.quotes.specs.Parts.{stockOf}
+use Rattle.quotes.specs.Shown.{shownOf}
+use Rattle.quotes.proofs.Laws as quotes
+use Rattle.states.specs.After.{fit, effectAt, effectOf, afterOf}
+use Rattle.states.specs.Laws.{AsTheRules, FitsAsItIs, LookShowsTheSame, Laws}
 
 as-the-rules : AsTheRules
 unfolding after does effectOf effectAt
@@ -24,10 +28,16 @@ fits-as-it-is : FitsAsItIs
 unfolding fit
 fits-as-it-is f h = if-false _ _ _ (le-ltb _ _ h)
 
+look-shows-the-same : LookShowsTheSame
+unfolding look
+look-shows-the-same s =
+    if-arms (λ n. shownOf n ≡ shownOf s) _ {x = enter-limit s} {y = s} (λ t. quotes.laws .limit-shows-the-same s (all-eqb _ _ _ t)) (λ _. refl)
+
 pub laws : Laws
 laws = record {
   as-the-rules = as-the-rules;
   fits-as-it-is = fits-as-it-is;
-  after-message-determined = λ m f s. agree (effectOf m (fit f) s);
-  after-moment-determined = λ mark time f s. agree (effect mark (fit f) (at-time time s));
+  look-shows-the-same = look-shows-the-same;
+  after-message-determined = λ m f k q. agree (afterOf (effectOf m (fit f) (stockOf k q)));
+  after-moment-determined = λ mark time f k q. agree (afterOf (effect mark (fit f) (at-time time (stockOf k q))));
 }

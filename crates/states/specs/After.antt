@@ -1,4 +1,4 @@
--- What a message does to a stock beside its window (document 01, "Messages"), and which figures a window can have.
+-- What a message does to a stock beside its window (document 01, "Messages"), which figures a window can have, and a stock with what it shows.
 -- Assumes nothing.
 use Prim.Native.Nat.{_*_, _≤_}
 use lib.Dec.{ltb}
@@ -10,6 +10,9 @@ use Rattle.rules.specs.declared.Stock.{Stock}
 use Rattle.rules.specs.declared.Figures.{Figures}
 use Rattle.rules.specs.declared.Message.{Message}
 use Rattle.rules.specs.declared.Message.the-variants.{Trade as T, Quote as Q, Opening as O, Pause as P, Reopening as R, Closing as X}
+use Rattle.quotes.specs.Parts.{keptOf}
+use Rattle.quotes.specs.Shown.{shownOf}
+use Rattle.states.specs.declared.After.{After}
 
 -- figures that a window of 32-bit prices can have: their mean fits 32 bits
 abbrev pub Fits : Figures → Type 0
@@ -31,3 +34,7 @@ effectAt (X time participant price) f s = shut s
 -- an accepted message, with the figures of the window that it leaves
 unfoldable pub effectOf : Message → Figures → Stock → Stock
 effectOf m f s = effectAt m f (at-time (timeOf m) s)
+
+-- a stock by its parts, and what it shows
+abbrev pub afterOf : Stock → After
+afterOf s = record { kept = keptOf s; quotes = s .quotes; shown = shownOf s }

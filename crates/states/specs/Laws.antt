@@ -4,12 +4,18 @@ use Prim.Native.Nat.{ℕ}
 use mathlib.Core.Path.{_≡_}
 use Rattle.forms.specs.Promises.{Determines}
 use Rattle.rules.specs.Stock.{Whole, figuresOf, at-time}
+use Rattle.rules.specs.States.{look}
 use Rattle.rules.specs.Moments.{effect}
 use Rattle.rules.specs.Messages.{after}
 use Rattle.rules.specs.declared.Stock.{Stock}
 use Rattle.rules.specs.declared.Figures.{Figures}
 use Rattle.rules.specs.declared.Message.{Message}
-use Rattle.states.specs.After.{Fits, fit, effectOf}
+use Rattle.rules.specs.declared.Quotes.{Quotes}
+use Rattle.quotes.specs.Parts.{stockOf}
+use Rattle.quotes.specs.Shown.{shownOf}
+use Rattle.quotes.specs.declared.Kept.{Kept}
+use Rattle.states.specs.After.{Fits, fit, effectOf, afterOf}
+use Rattle.states.specs.declared.After.{After}
 
 -- an accepted message leaves the stock that the rules leave, its window's figures being those that it leaves
 abbrev pub AsTheRules : Type 0
@@ -19,9 +25,16 @@ AsTheRules = (m : Message) (h : Whole) → effectOf m (figuresOf (after m h .win
 abbrev pub FitsAsItIs : Type 0
 FitsAsItIs = (f : Figures) → Fits f → fit f ≡ f
 
+-- to look at the quotes changes nothing that is shown, also where Limit is entered
+abbrev pub LookShowsTheSame : Type 0
+LookShowsTheSame = (s : Stock) → shownOf (look s) ≡ shownOf s
+
 pub record Laws : Type 0 where
   pub as-the-rules : AsTheRules
   pub fits-as-it-is : FitsAsItIs
+  pub look-shows-the-same : LookShowsTheSame
   -- two results that a promise of src/lib.rt allows agree
-  pub after-message-determined : (m : Message) (f : Figures) (s : Stock) → Determines (λ (r : Stock). r ≡ effectOf m (fit f) s)
-  pub after-moment-determined : (mark time : ℕ) (f : Figures) (s : Stock) → Determines (λ (r : Stock). r ≡ effect mark (fit f) (at-time time s))
+  pub after-message-determined : (m : Message) (f : Figures) (k : Kept) (q : Quotes)
+      → Determines (λ (r : After). r ≡ afterOf (effectOf m (fit f) (stockOf k q)))
+  pub after-moment-determined : (mark time : ℕ) (f : Figures) (k : Kept) (q : Quotes)
+      → Determines (λ (r : After). r ≡ afterOf (effect mark (fit f) (at-time time (stockOf k q))))

@@ -1,2 +1,3 @@
 pub mod After
+pub mod Turns
 pub mod Laws

@@ -1,16 +1,19 @@
-// The state rules. Figures have been fitted: their mean has 32 bits.
+// The state rules, up to the look at the quotes. Figures have been fitted: their mean has 32 bits.
 ghost use mathlib.Core.Path.{_≡_};
-ghost use Rattle.rules.specs.Stock.{meanIn};
-ghost use Rattle.rules.specs.Quotes.{flagged, crossed};
-ghost use Rattle.rules.specs.States.{look, begin-trading, leave, test, begin-pause};
-ghost use Rattle.rules.specs.Messages.{tradeRules, quoteRules};
+ghost use mathlib.Core.Bool.{true, false};
+ghost use Rattle.rules.specs.Stock.{Trading, in-state, refer-to, meanIn};
+ghost use Rattle.rules.specs.States.{begin-trading, test, begin-pause};
+ghost use Rattle.rules.specs.Messages.{tradeRules};
 ghost use Rattle.rules.specs.Moments.{first-five, effect};
+ghost use Rattle.quotes.specs.Parts.{stockOf, keptOf, bare};
 ghost use Rattle.states.specs.After.{Fits, fit, effectAt};
+ghost use Rattle.states.specs.Turns.{quotesTold, quotesAt, turnedTo, leftTo, leftPrice, Turns};
+ghost use Rattle.rules.specs.declared.Quotes.{Quotes};
 use crate::set;
-use rules::Best;
+use quotes::Kept;
+use rules::CLOSED;
 use rules::Figures;
 use rules::LATE;
-use rules::LIMIT;
 use rules::MARK_C;
 use rules::MARK_F;
 use rules::MARK_P;
@@ -20,9 +23,14 @@ use rules::MARK_X;
 use rules::MARK_Z;
 use rules::Message;
 use rules::PAUSED;
-use rules::Stock;
 use rules::TRADING;
 use rules::WAITING;
+
+// What a step makes of a stock before its quotes are looked at, and whether they are.
+pub struct Turn {
+    pub kept: Kept,
+    pub looks: bool,
+}
 
 // The figures, none where no window of 32-bit prices has them.
 pub(crate) fn fitted(f: Figures) -> Figures
@@ -39,190 +47,154 @@ pub(crate) fn fitted(f: Figures) -> Figures
 }
 
 // The mean of the window's prices.
-pub(crate) fn mean(f: Figures) -> u32
+fn mean(f: Figures) -> u32
     requires { ⌜ Fits f ⌝ }
     ensures { λ r. ⌜ r ≡ meanIn f ⌝ }
 {
     band::mean(f.sum, f.count) as u32
 }
 
-// Whether a side has flag 3.
-pub(crate) fn at_limit(b: Best) -> bool
-    ensures { λ r. ⌜ r ≡ flagged 3 b ⌝ }
+// Nothing that makes the quotes be looked at.
+fn still(k: Kept) -> Turn
+    ensures { λ r. ⌜ r ≡ record { kept = k; looks = false } ⌝ }
 {
-    if b.bid.flag == 3 {
-        return true;
+    Turn {
+        kept: k,
+        looks: false,
     }
-    b.offer.flag == 3
 }
 
-// Whether the best bid is above the best offer.
-pub(crate) fn is_crossed(b: Best) -> bool
-    ensures { λ r. ⌜ r ≡ crossed b ⌝ }
+// The quotes are to be looked at.
+fn looking(k: Kept) -> Turn
+    ensures { λ r. ⌜ r ≡ record { kept = k; looks = true } ⌝ }
 {
-    let offer = b.offer.price;
-    if offer == 0 {
-        return false;
+    Turn {
+        kept: k,
+        looks: true,
     }
-    offer < b.bid.price
-}
-
-// Looking at the quotes, which may begin Limit.
-pub(crate) fn look(s: Stock) -> Stock
-    ensures { λ r. ⌜ r ≡ look s ⌝ }
-{
-    let state = s.course.state;
-    if state == TRADING {
-        let best = quotes::best_of(s);
-        if at_limit(best) & !is_crossed(best) {
-            return set::enter_limit(s);
-        }
-    }
-    s
 }
 
 // An entry into Trading.
-pub(crate) fn begin_trading(price: u32, s: Stock) -> Stock
-    ensures { λ r. ⌜ r ≡ begin-trading price s ⌝ }
+fn begin_trading(price: u32, k: Kept) -> Turn
+    ensures { λ r. ⌜ Turns (begin-trading price) k r ⌝ }
 {
-    look(set::in_state(TRADING, set::refer_to(price, s)))
+    looking(set::trading(price, k))
 }
 
-// Limit, whose quotes were set anew, may end.
-pub(crate) fn leave(f: Figures, s: Stock) -> Stock
+// Limit has ended: Trading, with the mean as the reference where there is a trade.
+pub(crate) fn leave(f: Figures, k: Kept) -> Kept
     requires { ⌜ Fits f ⌝ }
-    ensures { λ r. ⌜ r ≡ leave f s ⌝ }
+    ensures { λ r. ⌜ r ≡ keptOf (in-state Trading (refer-to (leftPrice f (k .reference .price)) (bare k))) ⌝ }
 {
-    let best = quotes::best_of(s);
-    if at_limit(best) {
-        return s;
+    if f.count == 0 {
+        return set::trading(k.reference.price, k);
     }
-    if f.count != 0 {
-        return begin_trading(mean(f), s);
-    }
-    begin_trading(s.reference.price, s)
+    set::trading(mean(f), k)
 }
 
 // The Test.
-pub(crate) fn test(f: Figures, s: Stock) -> Stock
+fn test(f: Figures, k: Kept) -> Turn
     requires { ⌜ Fits f ⌝ }
-    ensures { λ r. ⌜ r ≡ test f s ⌝ }
+    ensures { λ r. ⌜ Turns (test f) k r ⌝ }
 {
-    let state = s.course.state;
-    let reference = s.reference;
+    let state = k.course.state;
+    let reference = k.reference;
     let count = f.count;
     if state != TRADING {
-        return s;
+        return still(k);
     }
     if reference.hold != 0 {
-        return s;
+        return still(k);
     }
     if count == 0 {
-        return s;
+        return still(k);
     }
     let price = mean(f);
     if band::moves(price, reference.price) {
-        return look(set::refer_to(price, s));
+        return looking(set::refer_to(price, k));
     }
-    s
+    still(k)
 }
 
 // A pause starts now.
-pub(crate) fn begin_pause(s: Stock) -> Stock
-    ensures { λ r. ⌜ r ≡ begin-pause s ⌝ }
+fn begin_pause(k: Kept) -> Turn
+    ensures { λ r. ⌜ Turns begin-pause k r ⌝ }
 {
-    let end = s.end as u64;
-    let clock = s.course.clock as u64;
+    let end = k.end as u64;
+    let clock = k.course.clock as u64;
     if end <= clock + 600_000 {
-        return set::enter_pause(LATE, s);
+        return still(set::enter_pause(LATE, k));
     }
-    set::enter_pause(PAUSED, s)
+    still(set::enter_pause(PAUSED, k))
 }
 
 // A trade has joined the window.
-pub(crate) fn trade(f: Figures, s: Stock) -> Stock
+fn trade(f: Figures, k: Kept) -> Turn
     requires { ⌜ Fits f ⌝ }
-    ensures { λ r. ⌜ r ≡ tradeRules f s ⌝ }
+    ensures { λ r. ⌜ Turns (tradeRules f) k r ⌝ }
 {
-    let c = s.course;
+    let c = k.course;
     if c.state == WAITING {
         if 300_000 <= c.clock {
-            return begin_trading(mean(f), s);
+            return begin_trading(mean(f), k);
         }
-        return s;
+        return still(k);
     }
-    test(f, s)
-}
-
-// A quote is set.
-pub(crate) fn quote(f: Figures, s: Stock) -> Stock
-    requires { ⌜ Fits f ⌝ }
-    ensures { λ r. ⌜ r ≡ quoteRules f s ⌝ }
-{
-    let state = s.course.state;
-    if state == LIMIT {
-        return leave(f, s);
-    }
-    look(s)
+    test(f, k)
 }
 
 // A message, the clock being at its time.
-pub(crate) fn message(m: Message, f: Figures, s: Stock) -> Stock
+pub(crate) fn message(m: Message, f: Figures, k: Kept) -> Turn
     requires { ⌜ Fits f ⌝ }
-    ensures { λ r. ⌜ r ≡ effectAt m f s ⌝ }
+    ensures { λ r. ⌜ ((q : Quotes) → leftTo r f (quotesTold q m) ≡ effectAt m f (stockOf k q)) ⌝ }
 {
     match m {
-        Message::Trade { .. } => trade(f, s),
-        Message::Quote {
-            participant,
-            bid,
-            offer,
-            ..
-        } => quote(f, set::with_quote(participant, bid, offer, s)),
-        Message::Opening { price, .. } => begin_trading(price, s),
-        Message::Pause { .. } => begin_pause(s),
-        Message::Reopening { price, .. } => begin_trading(price, s),
-        Message::Closing { .. } => set::shut(s),
+        Message::Trade { .. } => trade(f, k),
+        Message::Quote { .. } => looking(k),
+        Message::Opening { price, .. } => begin_trading(price, k),
+        Message::Pause { .. } => begin_pause(k),
+        Message::Reopening { price, .. } => begin_trading(price, k),
+        Message::Closing { .. } => still(set::in_state(CLOSED, k)),
     }
 }
 
 // The moment f.
-pub(crate) fn first_five(f: Figures, s: Stock) -> Stock
+fn first_five(f: Figures, k: Kept) -> Turn
     requires { ⌜ Fits f ⌝ }
-    ensures { λ r. ⌜ r ≡ first-five f s ⌝ }
+    ensures { λ r. ⌜ Turns (first-five f) k r ⌝ }
 {
-    let n = set::not_early(s);
+    let n = set::not_early(k);
     if f.count == 0 {
-        return n;
+        return still(n);
     }
     begin_trading(mean(f), n)
 }
 
 // A moment, the clock being at its time; any other mark is h.
-pub(crate) fn moment(mark: u32, f: Figures, s: Stock) -> Stock
+pub(crate) fn moment(mark: u32, f: Figures, k: Kept) -> Turn
     requires { ⌜ Fits f ⌝ }
-    ensures { λ r. ⌜ r ≡ effect mark f s ⌝ }
+    ensures { λ r. ⌜ ((q : Quotes) → turnedTo r (quotesAt mark q) ≡ effect mark f (stockOf k q)) ⌝ }
 {
     if mark == MARK_Z {
-        return set::shut(s);
+        return still(set::in_state(CLOSED, k));
     }
     if mark == MARK_W {
-        return look(s);
+        return looking(k);
     }
     if mark == MARK_X {
-        return begin_pause(s);
+        return begin_pause(k);
     }
     if mark == MARK_P {
-        return begin_trading(s.reference.price, s);
+        return begin_trading(k.reference.price, k);
     }
     if mark == MARK_C {
-        return set::shut(s);
+        return still(set::in_state(CLOSED, k));
     }
     if mark == MARK_V {
-        return test(f, s);
+        return test(f, k);
     }
     if mark == MARK_F {
-        return first_five(f, s);
+        return first_five(f, k);
     }
-    test(f, set::hold_ended(s))
+    test(f, set::hold_ended(k))
 }

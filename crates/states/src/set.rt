@@ -1,118 +1,208 @@
-// A stock with something set anew.
+// A stock's parts with something set anew.
 ghost use mathlib.Core.Path.{_≡_};
-ghost use lib.ListN.{set};
-ghost use Rattle.rules.specs.Stock.{at-time, in-state, refer-to, hold-ended, not-early, enter-limit, enter-pause};
-ghost use Rattle.rules.specs.States.{shut};
-ghost use Rattle.rules.specs.Messages.{with-quote};
-use rules::CLOSED;
+ghost use Rattle.rules.specs.Stock.{Trading, with-course, with-reference, at-time, in-state, refer-to, hold-ended, not-early, enter-limit, enter-pause};
+ghost use Rattle.rules.specs.States.{noQuotes};
+ghost use Rattle.quotes.specs.Parts.{keptOf, bare};
+ghost use Rattle.states.specs.Turns.{withQuote, quotesTold, quotesAt};
+use quotes::Kept;
+use rules::Course;
 use rules::LAST_PARTICIPANT;
 use rules::LIMIT;
+use rules::MARK_C;
+use rules::MARK_Z;
+use rules::Message;
 use rules::Quotes;
-use rules::Stock;
+use rules::Reference;
+use rules::TRADING;
+
+// Another course. Each is written out field by field: of one that is copied and then changed, the compiler reads a
+// field back with its neighbour before the change is stored, and the processor waits.
+fn with_course(course: Course, k: Kept) -> Kept
+    ensures { λ r. ⌜ r ≡ keptOf (with-course course (bare k)) ⌝ }
+{
+    let setup = k.setup;
+    let reference = k.reference;
+    Kept {
+        setup,
+        end: k.end,
+        course,
+        reference,
+    }
+}
 
 // The clock is at `time`.
-pub(crate) fn at_time(time: u32, s: Stock) -> Stock
-    ensures { λ r. ⌜ r ≡ at-time time s ⌝ }
+pub(crate) fn at_time(time: u32, k: Kept) -> Kept
+    ensures { λ r. ⌜ r ≡ keptOf (at-time time (bare k)) ⌝ }
 {
-    let mut n = s;
-    n.course.clock = time;
-    n
+    let c = k.course;
+    let course = Course {
+        state: c.state,
+        clock: time,
+        early: c.early,
+        entry: c.entry,
+        pause: c.pause,
+    };
+    with_course(course, k)
 }
 
 // Another state.
-pub(crate) fn in_state(state: u32, s: Stock) -> Stock
-    ensures { λ r. ⌜ r ≡ in-state state s ⌝ }
+pub(crate) fn in_state(state: u32, k: Kept) -> Kept
+    ensures { λ r. ⌜ r ≡ keptOf (in-state state (bare k)) ⌝ }
 {
-    let mut n = s;
-    n.course.state = state;
-    n
-}
-
-// The reference `price`, started now, with a new hold.
-pub(crate) fn refer_to(price: u32, s: Stock) -> Stock
-    ensures { λ r. ⌜ r ≡ refer-to price s ⌝ }
-{
-    let mut n = s;
-    n.reference.price = price;
-    n.reference.start = s.course.clock;
-    n.reference.hold = 1;
-    n
-}
-
-// The moment h has happened.
-pub(crate) fn hold_ended(s: Stock) -> Stock
-    ensures { λ r. ⌜ r ≡ hold-ended s ⌝ }
-{
-    let mut n = s;
-    n.reference.hold = 0;
-    n
-}
-
-// The moment f has happened.
-pub(crate) fn not_early(s: Stock) -> Stock
-    ensures { λ r. ⌜ r ≡ not-early s ⌝ }
-{
-    let mut n = s;
-    n.course.early = 0;
-    n
+    let c = k.course;
+    let course = Course {
+        state,
+        clock: c.clock,
+        early: c.early,
+        entry: c.entry,
+        pause: c.pause,
+    };
+    with_course(course, k)
 }
 
 // Limit, entered now.
-pub(crate) fn enter_limit(s: Stock) -> Stock
-    ensures { λ r. ⌜ r ≡ enter-limit s ⌝ }
+pub(crate) fn enter_limit(k: Kept) -> Kept
+    ensures { λ r. ⌜ r ≡ keptOf (enter-limit (bare k)) ⌝ }
 {
-    let mut n = s;
-    n.course.state = LIMIT;
-    n.course.entry = s.course.clock;
-    n
+    let c = k.course;
+    let course = Course {
+        state: LIMIT,
+        clock: c.clock,
+        early: c.early,
+        entry: c.clock,
+        pause: c.pause,
+    };
+    with_course(course, k)
 }
 
 // A pause of either kind, started now.
-pub(crate) fn enter_pause(state: u32, s: Stock) -> Stock
-    ensures { λ r. ⌜ r ≡ enter-pause state s ⌝ }
+pub(crate) fn enter_pause(state: u32, k: Kept) -> Kept
+    ensures { λ r. ⌜ r ≡ keptOf (enter-pause state (bare k)) ⌝ }
 {
-    let mut n = s;
-    n.course.state = state;
-    n.course.pause = s.course.clock;
-    n
+    let c = k.course;
+    let course = Course {
+        state,
+        clock: c.clock,
+        early: c.early,
+        entry: c.entry,
+        pause: c.clock,
+    };
+    with_course(course, k)
 }
 
-// One side's prices, that of a participant being `price`; there is no participant over 15.
-pub(crate) fn with_price(participant: u32, price: u32, side: [u32; 16]) -> [u32; 16]
-    ensures { λ r. ⌜ r ≡ set side participant price ⌝ }
+// The moment f has happened.
+pub(crate) fn not_early(k: Kept) -> Kept
+    ensures { λ r. ⌜ r ≡ keptOf (not-early (bare k)) ⌝ }
+{
+    let c = k.course;
+    let course = Course {
+        state: c.state,
+        clock: c.clock,
+        early: 0,
+        entry: c.entry,
+        pause: c.pause,
+    };
+    with_course(course, k)
+}
+
+// Another reference.
+fn with_reference(reference: Reference, k: Kept) -> Kept
+    ensures { λ r. ⌜ r ≡ keptOf (with-reference reference (bare k)) ⌝ }
+{
+    let setup = k.setup;
+    let course = k.course;
+    Kept {
+        setup,
+        end: k.end,
+        course,
+        reference,
+    }
+}
+
+// The reference `price`, started now, with a new hold.
+pub(crate) fn refer_to(price: u32, k: Kept) -> Kept
+    ensures { λ r. ⌜ r ≡ keptOf (refer-to price (bare k)) ⌝ }
+{
+    let reference = Reference {
+        price,
+        start: k.course.clock,
+        hold: 1,
+    };
+    with_reference(reference, k)
+}
+
+// Trading, with the reference `price`, started now.
+pub(crate) fn trading(price: u32, k: Kept) -> Kept
+    ensures { λ r. ⌜ r ≡ keptOf (in-state Trading (refer-to price (bare k))) ⌝ }
+{
+    in_state(TRADING, refer_to(price, k))
+}
+
+// The moment h has happened.
+pub(crate) fn hold_ended(k: Kept) -> Kept
+    ensures { λ r. ⌜ r ≡ keptOf (hold-ended (bare k)) ⌝ }
+{
+    let r = k.reference;
+    let reference = Reference {
+        price: r.price,
+        start: r.start,
+        hold: 0,
+    };
+    with_reference(reference, k)
+}
+
+// One participant's bid and offer; there is no participant over 15.
+fn with_quote(participant: u32, bid: u32, offer: u32, q: Quotes) -> Quotes
+    ensures { λ r. ⌜ r ≡ withQuote participant bid offer q ⌝ }
 {
     if LAST_PARTICIPANT < participant {
-        return side;
+        return q;
     }
-    let mut n = side;
-    n[participant as usize] = price;
+    let i = participant as usize;
+    let mut n = q;
+    n.bids[i] = bid;
+    n.offers[i] = offer;
     n
 }
 
-// One participant's bid and offer.
-pub(crate) fn with_quote(participant: u32, bid: u32, offer: u32, s: Stock) -> Stock
-    ensures { λ r. ⌜ r ≡ with-quote participant bid offer s ⌝ }
+// No quote.
+fn no_quotes() -> Quotes
+    ensures { λ r. ⌜ r ≡ noQuotes ⌝ }
 {
-    let bids = s.quotes.bids;
-    let offers = s.quotes.offers;
-    let b = with_price(participant, bid, bids);
-    let o = with_price(participant, offer, offers);
-    let q = Quotes { bids: b, offers: o };
-    let mut n = s;
-    n.quotes = q;
-    n
-}
-
-// Closed, with no quote.
-pub(crate) fn shut(s: Stock) -> Stock
-    ensures { λ r. ⌜ r ≡ shut s ⌝ }
-{
-    let q = Quotes {
+    Quotes {
         bids: [0; 16],
         offers: [0; 16],
-    };
-    let mut n = s;
-    n.course.state = CLOSED;
-    n.quotes = q;
-    n
+    }
+}
+
+// The quotes after a message: Q sets a participant's, X leaves none.
+pub(crate) fn quotes_told(m: Message, q: Quotes) -> Quotes
+    ensures { λ r. ⌜ r ≡ quotesTold q m ⌝ }
+{
+    match m {
+        Message::Trade { .. } => q,
+        Message::Quote {
+            participant,
+            bid,
+            offer,
+            ..
+        } => with_quote(participant, bid, offer, q),
+        Message::Opening { .. } => q,
+        Message::Pause { .. } => q,
+        Message::Reopening { .. } => q,
+        Message::Closing { .. } => no_quotes(),
+    }
+}
+
+// The quotes after a moment: z and c leave none.
+pub(crate) fn quotes_at(mark: u32, q: Quotes) -> Quotes
+    ensures { λ r. ⌜ r ≡ quotesAt mark q ⌝ }
+{
+    if mark == MARK_Z {
+        return no_quotes();
+    }
+    if mark == MARK_C {
+        return no_quotes();
+    }
+    q
 }

@@ -14,9 +14,9 @@ use Rattle.forms.proofs.Choice.{if-true, if-false, if-arms, all-head, all-tail,
 use Rattle.forms.specs.Checks.{first}
 use Rattle.forms.proofs.Checks.{beyond}
 use Rattle.rules.specs.Stock.{Trade, Whole, clockOf, figuresOf, staying}
-use Rattle.rules.specs.Moments.{dueBy, windowAfter, come, nextOf, fire}
+use Rattle.rules.specs.Moments.{no-moment, dueBy, windowAfter, come, nextOf, fire}
 use Rattle.rules.specs.Messages.{does, after}
-use Rattle.rules.specs.Numbers.{badTrades, rubbish, ownChecks, tells, settles, zeros, answer, afterTelling, notice, tellAnswer, settleAnswer, readChecks, reads, readAnswer}
+use Rattle.rules.specs.Numbers.{badTrades, rubbish, ownChecks, timeChecks, tells, settles, zeros, answer, afterTelling, notice, tellAnswer, settleAnswer, readChecks, reads, readAnswer}
 use Rattle.rules.specs.declared.Answer.{Answer}
 use Rattle.rules.specs.declared.Message.{Message}
 use Rattle.rules.specs.declared.Message.the-variants.{Trade as T, Quote as Q, Opening as O, Pause as P, Reopening as R, Closing as X}
@@ -24,13 +24,16 @@ use Rattle.rules.specs.declared.Moment.{Moment}
 use Rattle.rules.specs.declared.Stock.{Stock}
 use Rattle.rules.proofs.Passed.{told, settled}
 use Rattle.rules.proofs.Sound.{fewer}
+use Rattle.quotes.specs.Parts.{stockOf, keptOf, bare}
+use Rattle.quotes.specs.declared.Kept.{Kept}
+use Rattle.states.specs.After.{afterOf}
+use Rattle.states.specs.declared.After.{After}
 use Rattle.window.specs.Places.{trades, whole, laid, Written}
 use Rattle.window.proofs.Window.{length-trades, placed-fits}
 use Rattle.stock.proofs.Sights.{message-number-is, settle-number-is, sound-where-done}
 use Rattle.stock.specs.View.{Bytes, bytes, view, lay, shaped, Outcome, telling, settling, Tells, Settles, reading}
-use Rattle.stock.specs.Steps.{Seen, messageNumber, settleNumber, refusal, nothingDone, Held, holding, Makes}
-use Rattle.stock.specs.declared.Told.{Told}
-use Rattle.stock.specs.declared.Settled.{Settled}
+use Rattle.stock.specs.Steps.{recordOf, Seen, messageNumber, settleNumber, answerBy, Held, holding, Makes}
+use Rattle.stock.specs.declared.Record.{Record}
 use Rattle.stock.specs.declared.sight.Sight.{Sight}
 use Rattle.stock.specs.declared.steps.Step.{Step}
 
@@ -103,15 +106,15 @@ module _ (b : Bytes) (g : Sight) (k : Seen b g) (s : g .sound ≡ true) where
 
   -- ---------------------------------------------------------------- what is laid out
 
-  laid-out : (rule : Whole → Whole) (step : Step) (us qs : List ℕ) → length (rule (view b) .window) ≤ 512 → Makes rule (view b) step
-      → Written (step .change) (b .kept .count) (b .times) (b .prices) us qs
-      → bytes (record { stock = step .stock; count = step .count }) us qs ≡ lay (rule (view b)) b
-  laid-out rule step us qs l m w =
+  laid-out : (rule : Whole → Whole) (step : Step) (next : Record) (us qs : List ℕ) → length (rule (view b) .window) ≤ 512 → Makes rule (view b) step
+      → next ≡ recordOf (step .after .kept) (step .after .quotes) (step .count) → Written (step .change) (b .kept .count) (b .times) (b .prices) us qs
+      → bytes next us qs ≡ lay (rule (view b)) b
+  laid-out rule step next us qs l m e w =
       let times : us ≡ laid (b .kept .count) (map (λ t. t .at) (rule (view b) .window)) (b .times) =
       w .times ∙ rw (m .window) (placed-fits _ _ _ (fits (λ t. t .at) (b .times) times-512)) in
       let prices : qs ≡ laid (b .kept .count) (map (λ t. t .price) (rule (view b) .window)) (b .prices) =
       w .prices ∙ rw (m .window) (placed-fits _ _ _ (fits (λ t. t .price) (b .prices) prices-512)) in
-      simp (m .stock, m .count, times, prices)
+      simp (e, m .after, m .count, times, prices)
     where
       fits : (f : Trade → ℕ) (xs : List ℕ) → length xs ≡ 512 → max (b .kept .count) (length (map f (rule (view b) .window))) ≤ length xs
       fits f xs e = max-le (omega (arith, count-512)) (simp length-map (omega arith))
@@ -127,114 +130,141 @@ one-zeros : (s : Stock) → answer 1 s ≡ zeros 1
 unfolding answer anyOf if_then_else_
 one-zeros s = refl
 
-module _ (b : Bytes) (g : Sight) (k : Seen b g) where
-  abbrev h : Whole
-  h = holding (b .kept .stock) (g .figures) (b .times) (b .prices)
+-- a number with what is shown of a stock that a step left
+answer-is : (step : After) (s : Stock) (a : Answer) → step ≡ afterOf s → a ≡ answerBy 0 (step .kept) (step .shown) → a ≡ answer 0 s
+unfolding answer anyOf if_then_else_
+answer-is step s a e f = rw (f, e)
 
-  -- the window that the figures count is the one that is held
-  same : (s : g .sound ≡ true) → h ≡ view b
-  same s = ap (λ n. record { stock = b .kept .stock; window = trades n (b .times) (b .prices) }) (same-count b g k s)
+-- a call takes its stock apart
+module _ (b : Bytes) (p : Kept) (ep : p ≡ keptOf (b .kept .stock)) where
+  abbrev parts : Record
+  parts = recordOf p (b .kept .stock .quotes) (b .kept .count)
 
-  module _ (m : Message) (n : ℕ) (e : n ≡ messageNumber m g (b .kept)) where
-    told-sound : n ≡ 0 → g .sound ≡ true
-    unfolding messageNumber
-    told-sound z = sound-where-done b g k _ (sym e ∙ z)
+  same-record : parts ≡ b .kept
+  same-record = rw ep
 
-    pub message-held : n ≡ 0 → Held (g .figures) (b .times) (b .prices)
-    message-held z = held b g k (told-sound z)
+  module _ (g : Sight) (v : Seen (bytes parts (b .times) (b .prices)) g) where
+    k : Seen b g
+    k = rw same-record at v
 
-    pub told-done : (step : Step) (us qs : List ℕ) (a : Answer) → n ≡ 0 → Makes (after m) h step
-        → Written (step .change) (b .kept .count) (b .times) (b .prices) us qs → a ≡ answer 0 (step .stock)
-        → Tells m b (record { answer = a; next = record { stock = step .stock; count = step .count } }) us qs
-    unfolding telling tellAnswer afterTelling
-    told-done step us qs a z makes writes ea =
-        let s = told-sound z in
-        let in-shape = in-shape b g k s in
-        let is : n ≡ tells m (view b) = e ∙ message-number-is b g k m ∙ simp (in-shape, if-true) in
-        let done : tells m (view b) ≡ 0 = sym is ∙ z in
-        let made : Makes (after m) (view b) step = rw (same s) at makes in
-        let out = laid-out b g k s (after m) step us qs (room m (view b) done) made writes in
-        let all : telling m b ≡ record { answer = answer 0 (after m (view b) .stock); bytes = lay (after m (view b)) b } =
-        simp (in-shape, done, eq-eqb 0 0 refl, if-true) in
-        outcome-is _ _ _ _ (ea ∙ ap (answer 0) (made .stock)) out ∙ sym all
+    abbrev h : Whole
+    h = holding (stockOf p (b .kept .stock .quotes)) (g .figures) (b .times) (b .prices)
 
-    pub told-refused : (r : Told) → (n ≡ 0 → ⊥) → r ≡ refusal n (b .kept) → Tells m b r (b .times) (b .prices)
-    unfolding telling tellAnswer afterTelling
-    told-refused r z er = go (shaped b) refl
+    -- the window that the figures count is the one that is held
+    same : (s : g .sound ≡ true) → h ≡ view b
+    same s = rw (ep, same-count b g k s)
+
+    module _ (m : Message) (n : ℕ) (e : n ≡ messageNumber m g parts) where
+      own-number : n ≡ messageNumber m g (b .kept)
+      own-number = rw same-record at e
+
+      told-sound : n ≡ 0 → g .sound ≡ true
+      unfolding messageNumber
+      told-sound z = sound-where-done b g k _ (sym e ∙ z)
+
+      pub message-held : n ≡ 0 → Held (g .figures) (b .times) (b .prices)
+      message-held z = held b g k (told-sound z)
+
+      pub told-done : (step : Step) (us qs : List ℕ) (a : Answer) (next : Record) → n ≡ 0 → Makes (after m) h step
+          → Written (step .change) (b .kept .count) (b .times) (b .prices) us qs → a ≡ answerBy 0 (step .after .kept) (step .after .shown)
+          → next ≡ recordOf (step .after .kept) (step .after .quotes) (step .count) → Tells m b (record { answer = a; next = next }) us qs
+      unfolding telling tellAnswer afterTelling
+      told-done step us qs a next z makes writes ea en =
+          let s = told-sound z in
+          let in-shape = in-shape b g k s in
+          let is : n ≡ tells m (view b) = own-number ∙ message-number-is b g k m ∙ simp (in-shape, if-true) in
+          let done : tells m (view b) ≡ 0 = sym is ∙ z in
+          let made : Makes (after m) (view b) step = rw (same s) at makes in
+          let out = laid-out b g k s (after m) step next us qs (room m (view b) done) made en writes in
+          let all : telling m b ≡ record { answer = answer 0 (after m (view b) .stock); bytes = lay (after m (view b)) b } =
+          simp (in-shape, done, eq-eqb 0 0 refl, if-true) in
+          outcome-is _ _ _ _ (answer-is _ _ a (made .after) ea) out ∙ sym all
+
+      pub told-refused : (a : Answer) → (n ≡ 0 → ⊥) → a ≡ answer n (stockOf p (b .kept .stock .quotes))
+          → Tells m b (record { answer = a; next = b .kept }) (b .times) (b .prices)
+      unfolding telling tellAnswer afterTelling
+      told-refused a z ea = go (shaped b) refl
+        where
+          is : n ≡ (if shaped b then tells m (view b) else 1)
+          is = own-number ∙ message-number-is b g k m
+
+          go : (x : Bool) → shaped b ≡ x → Tells m b (record { answer = a; next = b .kept }) (b .times) (b .prices)
+          go true q =
+              let n-is : tells m (view b) ≡ n = sym (is ∙ simp (q, if-true)) in
+              simp (q, if-true, n-is, ne-eqb n 0 z, if-false, ea, ep)
+          go false q =
+              let n-is : n ≡ 1 = is ∙ simp (q, if-false) in
+              simp (q, if-false, ea, n-is, one-zeros)
+
+    module _ (time n : ℕ) (e : n ≡ settleNumber time g (bare p)) where
+      own-settling : n ≡ settleNumber time g (b .kept .stock)
+      unfolding settleNumber timeChecks
+      own-settling = rw ep at e
+
+      settled-sound : n ≡ 0 → g .sound ≡ true
+      unfolding settleNumber
+      settled-sound z = sound-where-done b g k _ (sym e ∙ z)
+
+      settled-zero : n ≡ 0 → settles time (view b) ≡ 0
+      settled-zero z =
+          let in-shape = in-shape b g k (settled-sound z) in
+          let is : n ≡ settles time (view b) = own-settling ∙ settle-number-is b g k time ∙ simp (in-shape, if-true) in
+          sym is ∙ z
+
+      -- the moment that is due is not after the time
+      pub moment-held : n ≡ 0 → Held (g .figures) (b .times) (b .prices) × (g .earliest .time ≤ time)
+      unfolding dueBy
+      moment-held z =
+          let due = settled time (view b) (settled-zero z) .due in
+          (held b g k (settled-sound z), rw (k .earliest (settled-sound z)) (leb-true _ _ (all-head _ _ (all-tail _ _ due))))
+
+      pub settled-done : (step : Step) (us qs : List ℕ) (a : Answer) (next : Record) → n ≡ 0 → Makes (come (g .earliest)) h step
+          → Written (step .change) (b .kept .count) (b .times) (b .prices) us qs → a ≡ answerBy 0 (step .after .kept) (step .after .shown)
+          → next ≡ recordOf (step .after .kept) (step .after .quotes) (step .count)
+          → Settles time b (record { notice = record { answer = a; moment = g .earliest }; next = next }) us qs
+      unfolding settling settleAnswer notice fire come
+      settled-done step us qs a next z makes writes ea en =
+          let s = settled-sound z in
+          let in-shape = in-shape b g k s in
+          let done = settled-zero z in
+          let made : Makes (come (nextOf (view b))) (view b) step = rw (same s, k .earliest s) at makes in
+          let out = laid-out b g k s (come (nextOf (view b))) step next us qs (fired-few (view b) (no-rubbish b g k s)) made en writes in
+          let all : settling time b ≡ record { answer = notice (view b); bytes = lay (fire (view b)) b } =
+          simp (in-shape, done, eq-eqb 0 0 refl, if-true) in
+          outcome-is _ _ _ _ (simp (answer-is _ _ a (made .after) ea, k .earliest s)) out ∙ sym all
+
+      pub settled-refused : (a : Answer) → (n ≡ 0 → ⊥) → a ≡ answer n (stockOf p (b .kept .stock .quotes))
+          → Settles time b (record { notice = record { answer = a; moment = no-moment }; next = b .kept }) (b .times) (b .prices)
+      unfolding settling settleAnswer
+      settled-refused a z ea = go (shaped b) refl
+        where
+          is : n ≡ (if shaped b then settles time (view b) else 1)
+          is = own-settling ∙ settle-number-is b g k time
+
+          go : (x : Bool) → shaped b ≡ x
+              → Settles time b (record { notice = record { answer = a; moment = no-moment }; next = b .kept }) (b .times) (b .prices)
+          go true q =
+              let n-is : settles time (view b) ≡ n = sym (is ∙ simp (q, if-true)) in
+              simp (q, if-true, n-is, ne-eqb n 0 z, if-false, ea, ep)
+          go false q =
+              let n-is : n ≡ 1 = is ∙ simp (q, if-false) in
+              simp (q, if-false, ea, n-is, one-zeros)
+
+    -- -------------------------------------------------------------- a reading
+
+    pub read-sound : (a : Answer) → g .sound ≡ true → a ≡ answer 0 (stockOf p (b .kept .stock .quotes)) → a ≡ reading b
+    unfolding reading readAnswer reads readChecks first
+    read-sound a s ea =
+        let t = tests b g k s in
+        let shape : shaped b ≡ true = all-head _ _ t in
+        let clean : rubbish (view b) ≡ false = not-true _ (all-head _ _ (all-tail _ _ t)) in
+        ea ∙ simp (ep, shape, clean, if-true, if-false)
+
+    pub read-unsound : (a : Answer) → g .sound ≡ false → a ≡ answer 1 (stockOf p (b .kept .stock .quotes)) → a ≡ reading b
+    unfolding reading readAnswer reads readChecks first
+    read-unsound a s ea = go (shaped b) refl (rubbish (view b)) refl
       where
-        is : n ≡ (if shaped b then tells m (view b) else 1)
-        is = e ∙ message-number-is b g k m
-
-        go : (x : Bool) → shaped b ≡ x → Tells m b r (b .times) (b .prices)
-        go true q =
-            let n-is : tells m (view b) ≡ n = sym (is ∙ simp (q, if-true)) in
-            simp (q, if-true, n-is, ne-eqb n 0 z, if-false, er)
-        go false q =
-            let n-is : n ≡ 1 = is ∙ simp (q, if-false) in
-            simp (q, if-false, er, n-is, one-zeros)
-
-  module _ (time n : ℕ) (e : n ≡ settleNumber time g (b .kept .stock)) where
-    settled-sound : n ≡ 0 → g .sound ≡ true
-    unfolding settleNumber
-    settled-sound z = sound-where-done b g k _ (sym e ∙ z)
-
-    settled-zero : n ≡ 0 → settles time (view b) ≡ 0
-    settled-zero z =
-        let in-shape = in-shape b g k (settled-sound z) in
-        let is : n ≡ settles time (view b) = e ∙ settle-number-is b g k time ∙ simp (in-shape, if-true) in
-        sym is ∙ z
-
-    -- the moment that is due is not after the time
-    pub moment-held : n ≡ 0 → Held (g .figures) (b .times) (b .prices) × (g .earliest .time ≤ time)
-    unfolding dueBy
-    moment-held z =
-        let due = settled time (view b) (settled-zero z) .due in
-        (held b g k (settled-sound z), rw (k .earliest (settled-sound z)) (leb-true _ _ (all-head _ _ (all-tail _ _ due))))
-
-    pub settled-done : (step : Step) (us qs : List ℕ) (a : Answer) → n ≡ 0 → Makes (come (g .earliest)) h step
-        → Written (step .change) (b .kept .count) (b .times) (b .prices) us qs → a ≡ answer 0 (step .stock)
-        → Settles time b (record { notice = record { answer = a; moment = g .earliest }; next = record { stock = step .stock; count = step .count } }) us qs
-    unfolding settling settleAnswer notice fire come
-    settled-done step us qs a z makes writes ea =
-        let s = settled-sound z in
-        let in-shape = in-shape b g k s in
-        let done = settled-zero z in
-        let made : Makes (come (nextOf (view b))) (view b) step = rw (same s, k .earliest s) at makes in
-        let out = laid-out b g k s (come (nextOf (view b))) step us qs (fired-few (view b) (no-rubbish b g k s)) made writes in
-        let all : settling time b ≡ record { answer = notice (view b); bytes = lay (fire (view b)) b } =
-        simp (in-shape, done, eq-eqb 0 0 refl, if-true) in
-        outcome-is _ _ _ _ (simp (ea, made .stock, k .earliest s)) out ∙ sym all
-
-    pub settled-refused : (r : Settled) → (n ≡ 0 → ⊥) → r ≡ nothingDone n (b .kept) → Settles time b r (b .times) (b .prices)
-    unfolding settling settleAnswer
-    settled-refused r z er = go (shaped b) refl
-      where
-        is : n ≡ (if shaped b then settles time (view b) else 1)
-        is = e ∙ settle-number-is b g k time
-
-        go : (x : Bool) → shaped b ≡ x → Settles time b r (b .times) (b .prices)
-        go true q =
-            let n-is : settles time (view b) ≡ n = sym (is ∙ simp (q, if-true)) in
-            simp (q, if-true, n-is, ne-eqb n 0 z, if-false, er)
-        go false q =
-            let n-is : n ≡ 1 = is ∙ simp (q, if-false) in
-            simp (q, if-false, er, n-is, one-zeros)
-
-  -- ---------------------------------------------------------------- a reading
-
-  pub read-sound : (a : Answer) → g .sound ≡ true → a ≡ answer 0 (b .kept .stock) → a ≡ reading b
-  unfolding reading readAnswer reads readChecks first
-  read-sound a s ea =
-      let t = tests b g k s in
-      let shape : shaped b ≡ true = all-head _ _ t in
-      let clean : rubbish (view b) ≡ false = not-true _ (all-head _ _ (all-tail _ _ t)) in
-      ea ∙ simp (shape, clean, if-true, if-false)
-
-  pub read-unsound : (a : Answer) → g .sound ≡ false → a ≡ answer 1 (b .kept .stock) → a ≡ reading b
-  unfolding reading readAnswer reads readChecks first
-  read-unsound a s ea = go (shaped b) refl (rubbish (view b)) refl
-    where
-      go : (x : Bool) → shaped b ≡ x → (y : Bool) → rubbish (view b) ≡ y → a ≡ reading b
-      go false p y q = ea ∙ simp (one-zeros, p, if-false)
-      go true p true q = ea ∙ simp (p, q, if-true)
-      go true p false q = absurd (true≢false (sym (all-yes _ _ p (all-yes _ _ (ap not q) all-empty)) ∙ sym (k .sound) ∙ s))
+        go : (x : Bool) → shaped b ≡ x → (y : Bool) → rubbish (view b) ≡ y → a ≡ reading b
+        go false e y q = ea ∙ simp (one-zeros, e, if-false)
+        go true e true q = ea ∙ simp (ep, e, q, if-true)
+        go true e false q = absurd (true≢false (sym (all-yes _ _ e (all-yes _ _ (ap not q) all-empty)) ∙ sym (k .sound) ∙ s))

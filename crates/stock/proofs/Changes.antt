@@ -24,7 +24,8 @@ use Rattle.window.specs.declared.Change.{Change}
 use Rattle.window.specs.declared.Change.the-variants.{Stay, Join, Leave, Empty, Start}
 use Rattle.window.proofs.Laws as window
 use Rattle.window.proofs.Window.{length-trades, figures-snoc, total-most, rest-most}
-use Rattle.states.specs.After.{fit, effectOf}
+use Rattle.states.specs.After.{fit, effectOf, afterOf}
+use Rattle.states.specs.declared.After.{After}
 use Rattle.states.proofs.Laws as states
 use Rattle.stock.specs.Steps.{changeOf, changeAt, Held, withTrade, Changed, holding, Makes}
 
@@ -107,11 +108,11 @@ module _ (f : Figures) (ts ps : List ℕ) (k : Held f ts ps) where
       small = rw e (omega (arith, can-join));
     }
 
-    pub left : (gone : ℕ) (r : Figures) → change ≡ Leave gone → r ≡ restOf gone (f .count) ts ps → Changed change (f .count) ts ps r
-    unfolding changed restOf figuresOf
+    pub left : (gone : ℕ) (r : Figures) → change ≡ Leave gone → r ≡ restOf gone f ts ps → Changed change (f .count) ts ps r
+    unfolding changed figuresOf
     left gone r q e =
         let w = trades (f .count) ts ps in
-        let is : r ≡ figuresOf (drop gone w) = e ∙ simp (k .places, if-true) in
+        let is : r ≡ figuresOf (drop gone w) = e ∙ window.laws .rest-of-a-window gone f ts ps (k .places) (k .figures) in
         record { figures = rw q is; small = rw is (omega (arith, rest-most _ gone w (k .good .1))) }
 
     pub emptied : change ≡ Empty → Changed change (f .count) ts ps (record { count = 0; oldest = 0; sum = 0 })
@@ -125,26 +126,26 @@ module _ (f : Figures) (ts ps : List ℕ) (k : Held f ts ps) where
 
 -- ------------------------------------------------------------------ the step
 
-module _ (s : Stock) (f g : Figures) (ts ps : List ℕ) (change : Change) (st : Stock) (k : Held f ts ps)
+module _ (s : Stock) (f g : Figures) (ts ps : List ℕ) (change : Change) (st : After) (k : Held f ts ps)
     (c : Changed change (f .count) ts ps g) where
   abbrev h : Whole
   h = holding s f ts ps
 
   -- the step that leaves a rule's window makes of the stock what that window's figures make of it
-  made : (rule : Whole → Whole) → changed change (h .window) ≡ rule h .window → (g ≡ figuresOf (rule h .window) → st ≡ rule h .stock)
-      → Makes rule h (record { stock = st; count = g .count; change = change })
+  made : (rule : Whole → Whole) → changed change (h .window) ≡ rule h .window → (g ≡ figuresOf (rule h .window) → st ≡ afterOf (rule h .stock))
+      → Makes rule h (record { after = st; count = g .count; change = change })
   unfolding figuresOf
   made rule e q =
       let is : g ≡ figuresOf (rule h .window) = c .figures ∙ ap figuresOf e in
-      record { stock = q is; count = ap (λ g. g .count) is; window = e }
+      record { after = q is; count = ap (λ g. g .count) is; window = e }
 
-  pub message-step : (m : Message) → change ≡ changeOf m → st ≡ effectOf m (fit g) s
-      → Makes (after m) h (record { stock = st; count = g .count; change = change })
+  pub message-step : (m : Message) → change ≡ changeOf m → st ≡ afterOf (effectOf m (fit g) s)
+      → Makes (after m) h (record { after = st; count = g .count; change = change })
   message-step m e q = made (after m) (rw e (by-message m h)) (λ is.
-      q ∙ ap (λ g. effectOf m g s) (states.laws .fits-as-it-is g (c .small) ∙ is) ∙ states.laws .as-the-rules m h)
+      q ∙ ap afterOf (ap (λ g. effectOf m g s) (states.laws .fits-as-it-is g (c .small) ∙ is) ∙ states.laws .as-the-rules m h))
 
   pub moment-step : (m : Moment) (time : ℕ) → time ≡ m .time → change ≡ changeAt (m .mark) time (f .count) ts
-      → st ≡ effect (m .mark) (fit g) (at-time time s) → Makes (come m) h (record { stock = st; count = g .count; change = change })
+      → st ≡ afterOf (effect (m .mark) (fit g) (at-time time s)) → Makes (come m) h (record { after = st; count = g .count; change = change })
   unfolding come
   moment-step m time z e q =
       made (come m) (rw (e, z) (by-moment m (f .count) ts ps (omega (arith, of-count f ts ps k, of-times f ts ps k)))) (λ is.

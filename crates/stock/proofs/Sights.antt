@@ -15,11 +15,16 @@ use Rattle.rules.specs.Moments.{next, pastAt, nextOf}
 use Rattle.rules.specs.Numbers.{badStock, badTrades, rubbish, checks, tells, settleChecks, settles}
 use Rattle.rules.specs.declared.Message.{Message}
 use Rattle.rules.specs.declared.Moment.{Moment}
+use Rattle.rules.specs.declared.Quotes.{Quotes}
+use Rattle.quotes.specs.Parts.{stockOf}
+use Rattle.quotes.specs.declared.Kept.{Kept}
+use Rattle.judge.specs.Verdict.{verdictOf}
+use Rattle.judge.specs.declared.Verdict.{Verdict}
 use Rattle.window.specs.Places.{trades, whole, surveyOf}
 use Rattle.window.specs.declared.Surveyed.{Surveyed}
 use Rattle.window.proofs.Window.{length-trades}
 use Rattle.stock.specs.View.{Bytes, bytes, view, shaped}
-use Rattle.stock.specs.Steps.{Seen, messageNumber, settleNumber}
+use Rattle.stock.specs.Steps.{recordOf, Seen, messageNumber, settleNumber}
 use Rattle.stock.specs.declared.Record.{Record}
 use Rattle.stock.specs.declared.sight.Sight.{Sight}
 
@@ -73,7 +78,7 @@ module _ (r : Record) (ts ps : List ℕ) (v : Surveyed) (m : Moment) (rub : Bool
   unfolding w
   its-moment e = em ∙ ap (λ f. next f (r .stock)) (its-figures e)
 
-  pub seen-is : Seen (bytes r ts ps) (record { sound = v .sound && not rub; figures = v .figures; earliest = m })
+  seen-is : Seen (bytes r ts ps) (record { sound = v .sound && not rub; figures = v .figures; earliest = m })
   unfolding surveyed w whole shaped rubbish
   seen-is = record {
     sound = rw (is-sound, er, length-trades, over) (judged _ _ _ _ _ _ _ (λ e. ap (pastAt (clockOf (r .stock))) (its-moment (is-sound ∙ e))));
@@ -84,6 +89,12 @@ module _ (r : Record) (ts ps : List ℕ) (v : Surveyed) (m : Moment) (rub : Bool
       and-left : (a b : Bool) → (a && b) ≡ true → a ≡ true
       and-left true b e = refl
       and-left false b e = e
+
+-- the same of a stock by its parts, from what was found of it
+pub seen-parts : (k : Kept) (q : Quotes) (count : ℕ) (ts ps : List ℕ) (v : Surveyed) (d : Verdict) → v ≡ surveyOf (k .course .clock) count ts ps
+    → d ≡ verdictOf (v .figures) (stockOf k q)
+    → Seen (bytes (recordOf k q count) ts ps) (record { sound = v .sound && not (d .rubbish); figures = v .figures; earliest = d .earliest })
+seen-parts k q count ts ps v d ev ed = rw ed (seen-is (recordOf k q count) ts ps v (next (v .figures) (stockOf k q)) _ ev refl refl)
 
 -- ------------------------------------------------------------------ the number
 

@@ -9,21 +9,29 @@ use lib.ListN.{length}
 use Rattle.forms.specs.Choice.{if_then_else_, allOf, anyOf}
 use Rattle.forms.specs.Checks.{first}
 use Rattle.rules.specs.Stock.{Whole, figuresOf}
-use Rattle.rules.specs.Moments.{mark-z, mark-c, mark-v, no-moment, nextOf}
-use Rattle.rules.specs.Numbers.{badTrades, rubbish, messageChecks, timeChecks, answer}
+use Rattle.rules.specs.Moments.{mark-z, mark-c, mark-v, nextOf}
+use Rattle.rules.specs.Numbers.{badTrades, rubbish, messageChecks, timeChecks}
+use Rattle.rules.specs.declared.Answer.{Answer}
 use Rattle.rules.specs.declared.Figures.{Figures}
 use Rattle.rules.specs.declared.Message.{Message}
 use Rattle.rules.specs.declared.Message.the-variants.{Trade as T, Quote as Q, Opening as O, Pause as P, Reopening as R, Closing as X}
+use Rattle.rules.specs.declared.Quotes.{Quotes}
 use Rattle.rules.specs.declared.Stock.{Stock}
+use Rattle.quotes.specs.Parts.{stockOf}
+use Rattle.quotes.specs.declared.Kept.{Kept}
+use Rattle.quotes.specs.declared.Shown.{Shown}
+use Rattle.states.specs.After.{afterOf}
 use Rattle.window.specs.Places.{trades, whole, goneOf, changed}
 use Rattle.window.specs.declared.Change.{Change}
 use Rattle.window.specs.declared.Change.the-variants.{Stay, Join, Leave, Empty, Start}
 use Rattle.stock.specs.View.{Bytes, view, shaped}
 use Rattle.stock.specs.declared.Record.{Record}
-use Rattle.stock.specs.declared.Told.{Told}
-use Rattle.stock.specs.declared.Settled.{Settled}
 use Rattle.stock.specs.declared.sight.Sight.{Sight}
 use Rattle.stock.specs.declared.steps.Step.{Step}
+
+-- the record of a stock that has these parts, and of so many trades
+abbrev pub recordOf : Kept → Quotes → ℕ → Record
+recordOf k q count = record { stock = stockOf k q; count = count }
 
 -- ------------------------------------------------------------------ what a call sees first
 
@@ -41,12 +49,9 @@ messageNumber m g r = if g .sound then first (messageChecks m (r .count) (g .ear
 unfoldable pub settleNumber : ℕ → Sight → Stock → ℕ
 settleNumber time g s = if g .sound then first (timeChecks time (g .earliest) s) else 1
 
--- a message that is refused, and a settling that did no moment: the record is as it was
-abbrev pub refusal : ℕ → Record → Told
-refusal number r = record { answer = answer number (r .stock); next = r }
-
-abbrev pub nothingDone : ℕ → Record → Settled
-nothingDone number r = record { notice = record { answer = answer number (r .stock); moment = no-moment }; next = r }
+-- a number with what is shown of a stock
+abbrev pub answerBy : ℕ → Kept → Shown → Answer
+answerBy number k s = record { number = number; state = k .course .state; reference = k .reference .price; bands = s .bands; best = s .best }
 
 -- ------------------------------------------------------------------ a step, before a place is written
 
@@ -86,8 +91,8 @@ pub record Changed (change : Change) (count : ℕ) (times prices : List ℕ) (f 
 abbrev pub holding : Stock → Figures → List ℕ → List ℕ → Whole
 holding s f times prices = record { stock = s; window = trades (f .count) times prices }
 
--- the step makes of a stock what the rules make of it: its stock, its count, and its window once it is changed
+-- the step makes of a stock what the rules make of it: its stock with what it shows, its count, and its window once it is changed
 pub record Makes (rule : Whole → Whole) (h : Whole) (step : Step) : Type 0 where
-  pub stock : step .stock ≡ rule h .stock
+  pub after : step .after ≡ afterOf (rule h .stock)
   pub count : step .count ≡ length (rule h .window)
   pub window : changed (step .change) (h .window) ≡ rule h .window

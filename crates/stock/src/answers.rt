@@ -1,21 +1,44 @@
 // What a call is answered.
 ghost use mathlib.Core.Path.{_≡_};
 ghost use Rattle.rules.specs.Numbers.{answer};
-ghost use Rattle.stock.specs.Steps.{refusal, nothingDone};
-use crate::Record;
-use crate::Settled;
-use crate::Told;
+ghost use Rattle.quotes.specs.Parts.{stockOf};
+ghost use Rattle.stock.specs.Steps.{answerBy};
 use band::Limits;
+use quotes::Kept;
+use quotes::Shown;
 use rules::Answer;
 use rules::Best;
-use rules::Moment;
-use rules::Notice;
+use rules::Quotes;
 use rules::Side;
-use rules::Stock;
+
+// A number with what is shown of a stock. It is written field by field, so that no struct is copied right after it was written.
+pub(crate) fn with_shown(number: u32, k: Kept, s: Shown) -> Answer
+    ensures { λ r. ⌜ r ≡ answerBy number k s ⌝ }
+{
+    Answer {
+        number,
+        state: k.course.state,
+        reference: k.reference.price,
+        bands: Limits {
+            lower: s.bands.lower,
+            upper: s.bands.upper,
+        },
+        best: Best {
+            bid: Side {
+                price: s.best.bid.price,
+                flag: s.best.bid.flag,
+            },
+            offer: Side {
+                price: s.best.offer.price,
+                flag: s.best.offer.flag,
+            },
+        },
+    }
+}
 
 // A number with what the stock shows, after 1, 2 and 3 with zeros.
-pub(crate) fn answer_of(number: u32, s: Stock) -> Answer
-    ensures { λ r. ⌜ r ≡ answer number s ⌝ }
+pub(crate) fn answer_of(number: u32, k: Kept, q: Quotes) -> Answer
+    ensures { λ r. ⌜ r ≡ answer number (stockOf k q) ⌝ }
 {
     if (number == 1) | (number == 2) | (number == 3) {
         let none = Side { price: 0, flag: 0 };
@@ -30,36 +53,7 @@ pub(crate) fn answer_of(number: u32, s: Stock) -> Answer
             },
         };
     }
-    let shown = quotes::show(s);
-    let bands = shown.bands;
-    let best = shown.best;
-    Answer {
-        number,
-        state: s.course.state,
-        reference: s.reference.price,
-        bands,
-        best,
-    }
-}
-
-// A refused message: the record is handed back as it is.
-pub(crate) fn refused(number: u32, r: Record) -> Told
-    ensures { λ x. ⌜ x ≡ refusal number r ⌝ }
-{
-    let s = r.stock;
-    let answer = answer_of(number, s);
-    Told { answer, next: r }
-}
-
-// A settling that did no moment.
-pub(crate) fn unsettled(number: u32, r: Record) -> Settled
-    ensures { λ x. ⌜ x ≡ nothingDone number r ⌝ }
-{
-    let s = r.stock;
-    let moment = Moment { mark: 0, time: 0 };
-    let notice = Notice {
-        answer: answer_of(number, s),
-        moment,
-    };
-    Settled { notice, next: r }
+    let basis = quotes::basis_of(k);
+    let shown = quotes::show(basis, q);
+    with_shown(number, k, shown)
 }

@@ -6,10 +6,12 @@ ghost use mathlib.Core.Path.{_≡_};
 ghost use Rattle.stock.specs.View.{bytes, Tells, Settles, reading};
 use rules::Answer;
 use rules::Message;
+use rules::Moment;
 use rules::Notice;
 use rules::Stock;
 
 mod answers;
+mod parts;
 mod sight;
 mod steps;
 
@@ -38,20 +40,24 @@ impl Record {
         ensures { λ r. ⌜ Tells message (bytes self (now (times .entry)) (now (prices .entry))) r (now (times .exit)) (now (prices .exit)) ⌝ }
     {
         let s = self.stock;
-        let seen = sight::see(self, times, prices);
-        let number = sight::message_number(message, seen, self);
+        let q = s.quotes;
+        let k = parts::kept_of(s);
+        let seen = sight::see(self.count, k, q, times, prices);
+        let number = sight::message_number(message, seen, self.count, k, q);
         if number == 0 {
             let figures = seen.figures;
-            let step = steps::after_message(message, figures, times, prices, s);
+            let step = steps::after_message(message, figures, times, prices, k, q);
             let change = step.change;
-            let stock = step.stock;
-            let count = step.count;
+            let kept = step.after.kept;
+            let quotes = step.after.quotes;
+            let shown = step.after.shown;
             window::write(times, prices, self.count, change);
-            let answer = answers::answer_of(0, stock);
-            let next = Record { stock, count };
+            let answer = answers::with_shown(0, kept, shown);
+            let next = parts::record_of(kept, quotes, step.count);
             return Told { answer, next };
         }
-        answers::refused(number, self)
+        let answer = answers::answer_of(number, k, q);
+        Told { answer, next: self }
     }
 
     // Settles the stock to a time: its earliest moment is done if it is not after that time.
@@ -59,22 +65,28 @@ impl Record {
         ensures { λ r. ⌜ Settles time (bytes self (now (times .entry)) (now (prices .entry))) r (now (times .exit)) (now (prices .exit)) ⌝ }
     {
         let s = self.stock;
-        let seen = sight::see(self, times, prices);
-        let number = sight::settle_number(time, seen, s);
+        let q = s.quotes;
+        let k = parts::kept_of(s);
+        let seen = sight::see(self.count, k, q, times, prices);
+        let number = sight::settle_number(time, seen, k);
         if number == 0 {
             let moment = seen.earliest;
             let figures = seen.figures;
-            let step = steps::after_moment(moment, time, figures, times, prices, s);
+            let step = steps::after_moment(moment, time, figures, times, prices, k, q);
             let change = step.change;
-            let stock = step.stock;
-            let count = step.count;
+            let kept = step.after.kept;
+            let quotes = step.after.quotes;
+            let shown = step.after.shown;
             window::write(times, prices, self.count, change);
-            let answer = answers::answer_of(0, stock);
+            let answer = answers::with_shown(0, kept, shown);
             let notice = Notice { answer, moment };
-            let next = Record { stock, count };
+            let next = parts::record_of(kept, quotes, step.count);
             return Settled { notice, next };
         }
-        answers::unsettled(number, self)
+        let answer = answers::answer_of(number, k, q);
+        let moment = Moment { mark: 0, time: 0 };
+        let notice = Notice { answer, moment };
+        Settled { notice, next: self }
     }
 
     // Reads what the stock shows; nothing is changed.
@@ -82,11 +94,13 @@ impl Record {
         ensures { λ r. ⌜ r ≡ reading (bytes self (now (times .entry)) (now (prices .entry))) ⌝ }
     {
         let s = self.stock;
-        let seen = sight::see(self, times, prices);
+        let q = s.quotes;
+        let k = parts::kept_of(s);
+        let seen = sight::see(self.count, k, q, times, prices);
         let sound = seen.sound;
         if sound {
-            return answers::answer_of(0, s);
+            return answers::answer_of(0, k, q);
         }
-        answers::answer_of(1, s)
+        answers::answer_of(1, k, q)
     }
 }

@@ -1,12 +1,13 @@
 // What every call looks at first: its stock with its held trades, and the number that refuses it.
 ghost use mathlib.Core.Path.{_≡_};
+ghost use Rattle.quotes.specs.Parts.{bare};
 ghost use Rattle.stock.specs.View.{bytes};
-ghost use Rattle.stock.specs.Steps.{Seen, messageNumber, settleNumber};
-use crate::Record;
+ghost use Rattle.stock.specs.Steps.{recordOf, Seen, messageNumber, settleNumber};
+use quotes::Kept;
 use rules::Figures;
 use rules::Message;
 use rules::Moment;
-use rules::Stock;
+use rules::Quotes;
 
 // What is seen of a stock: figures and moment are to be used only where it is sound.
 pub struct Sight {
@@ -15,38 +16,37 @@ pub struct Sight {
     pub earliest: Moment,
 }
 
-// Judges a record with its places.
-pub(crate) fn see(r: Record, times: &[u32], prices: &[u32]) -> Sight
-    ensures { λ g. ⌜ Seen (bytes r (now (times .entry)) (now (prices .entry))) g ⌝ }
+// Judges a stock with its places.
+pub(crate) fn see(count: u32, k: Kept, q: Quotes, times: &[u32], prices: &[u32]) -> Sight
+    ensures { λ g. ⌜ Seen (bytes (recordOf k q count) (now (times .entry)) (now (prices .entry))) g ⌝ }
 {
-    let s = r.stock;
-    let survey = window::survey(s.course.clock, r.count, times, prices);
+    let survey = window::survey(k.course.clock, count, times, prices);
     let figures = survey.figures;
-    let earliest = judge::next_moment(figures, s);
-    let rubbish = judge::is_rubbish(earliest, s);
+    let verdict = judge::judged(figures, k, q);
+    let earliest = verdict.earliest;
     Sight {
-        sound: survey.sound & !rubbish,
+        sound: survey.sound & !verdict.rubbish,
         figures,
         earliest,
     }
 }
 
 // The number that a message is answered with.
-pub(crate) fn message_number(m: Message, seen: Sight, r: Record) -> u32
-    ensures { λ n. ⌜ n ≡ messageNumber m seen r ⌝ }
+pub(crate) fn message_number(m: Message, seen: Sight, count: u32, k: Kept, q: Quotes) -> u32
+    ensures { λ n. ⌜ n ≡ messageNumber m seen (recordOf k q count) ⌝ }
 {
     if seen.sound {
-        return judge::message_refusal(m, r.count, seen.earliest, r.stock);
+        return judge::message_refusal(m, count, seen.earliest, k, q);
     }
     1
 }
 
 // The number that settling to a time is answered with.
-pub(crate) fn settle_number(time: u32, seen: Sight, s: Stock) -> u32
-    ensures { λ n. ⌜ n ≡ settleNumber time seen s ⌝ }
+pub(crate) fn settle_number(time: u32, seen: Sight, k: Kept) -> u32
+    ensures { λ n. ⌜ n ≡ settleNumber time seen (bare k) ⌝ }
 {
     if seen.sound {
-        return judge::settle_refusal(time, seen.earliest, s);
+        return judge::settle_refusal(time, seen.earliest, k);
     }
     1
 }

@@ -3,19 +3,22 @@ ghost use mathlib.Core.Path.{_≡_};
 ghost use Prim.Native.Nat.{_*_, _≤_};
 ghost use Rattle.rules.specs.Moments.{come};
 ghost use Rattle.rules.specs.Messages.{after};
+ghost use Rattle.quotes.specs.Parts.{stockOf};
 ghost use Rattle.stock.specs.Steps.{changeOf, changeAt, Held, withTrade, Changed, holding, Makes};
+use quotes::Kept;
 use rules::Figures;
 use rules::MARK_C;
 use rules::MARK_V;
 use rules::MARK_Z;
 use rules::Message;
 use rules::Moment;
-use rules::Stock;
+use rules::Quotes;
+use states::After;
 use window::Change;
 
-// The stock, how many trades it then holds, and what is still to be done to its places.
+// The stock with what it shows, how many trades it then holds, and what is still to be done to its places.
 pub struct Step {
-    pub stock: Stock,
+    pub after: After,
     pub count: u32,
     pub change: Change,
 }
@@ -80,7 +83,7 @@ fn figures_after(change: Change, f: Figures, times: &[u32], prices: &[u32]) -> F
     match change {
         Change::Stay => f,
         Change::Join { time, price } => joined(f, time, price),
-        Change::Leave { gone } => window::rest(gone, f.count, times, prices),
+        Change::Leave { gone } => window::rest(gone, f, times, prices),
         Change::Empty => Figures {
             count: 0,
             oldest: 0,
@@ -95,15 +98,22 @@ fn figures_after(change: Change, f: Figures, times: &[u32], prices: &[u32]) -> F
 }
 
 // The step of an accepted message, with the figures of the window that is held.
-pub(crate) fn after_message(m: Message, f: Figures, times: &[u32], prices: &[u32], s: Stock) -> Step
+pub(crate) fn after_message(
+    m: Message,
+    f: Figures,
+    times: &[u32],
+    prices: &[u32],
+    k: Kept,
+    q: Quotes,
+) -> Step
     requires { ⌜ Held f (now times) (now prices) ⌝ }
-    ensures { λ r. ⌜ Makes (after m) (holding s f (now (times .entry)) (now (prices .entry))) r ⌝ }
+    ensures { λ r. ⌜ Makes (after m) (holding (stockOf k q) f (now (times .entry)) (now (prices .entry))) r ⌝ }
 {
     let change = change_of(m);
     let g = figures_after(change, f, times, prices);
-    let stock = states::after_message(m, g, s);
+    let after = states::after_message(m, g, k, q);
     Step {
-        stock,
+        after,
         count: g.count,
         change,
     }
@@ -125,17 +135,18 @@ pub(crate) fn after_moment(
     f: Figures,
     times: &[u32],
     prices: &[u32],
-    s: Stock,
+    k: Kept,
+    q: Quotes,
 ) -> Step
     requires { ⌜ Held f (now times) (now prices) × (m .time ≤ by) ⌝ }
-    ensures { λ r. ⌜ Makes (come m) (holding s f (now (times .entry)) (now (prices .entry))) r ⌝ }
+    ensures { λ r. ⌜ Makes (come m) (holding (stockOf k q) f (now (times .entry)) (now (prices .entry))) r ⌝ }
 {
     let time = own_time(m, by);
     let change = change_at(m.mark, time, f.count, times);
     let g = figures_after(change, f, times, prices);
-    let stock = states::after_moment(m.mark, time, g, s);
+    let after = states::after_moment(m.mark, time, g, k, q);
     Step {
-        stock,
+        after,
         count: g.count,
         change,
     }

@@ -1,6 +1,6 @@
 -- The laws of specs/Laws.antt.
 -- Assumes nothing.
-use Prim.Native.Nat.{ℕ, zero, suc, _+_, _-_, _<_, max}
+use Prim.Native.Nat.{ℕ, zero, suc, _+_, _-_, _≤_, _<_, max}
 use native.Mathlib.Nat.{not-suc-le-zero}
 use native.Mathlib.Omega.{arith}
 use mathlib.Core.Bool.{Bool, true, false}
@@ -8,16 +8,16 @@ use mathlib.Core.List.{List, [], _∷_, _++_, map}
 use mathlib.Core.Path.{_≡_, refl, ap, _∙_}
 use borrow.Author.Tests.{le-leb, ltb-true, ltb-false}
 use lib.Dec.{ltb}
-use lib.ListN.{length, getD, drop, replicate, length-replicate, getD-replicate, List·getD-append}
+use lib.ListN.{length, getD, take, drop, replicate, length-replicate, getD-replicate, drop-of-length-le, List·getD-append}
 use lib.Seq.{getD-append-add, getD-drop}
 use Rattle.forms.specs.Choice.{if_then_else_}
-use Rattle.forms.proofs.Choice.{if-true, if-false}
+use Rattle.forms.proofs.Choice.{tests, if-true, if-false}
 use Rattle.forms.proofs.Promises.{agree}
-use Rattle.rules.specs.Stock.{Trade, staying}
+use Rattle.rules.specs.Stock.{Trade, total, oldest, figuresOf, staying}
 use Rattle.window.specs.Places.{trades, laid, Written, surveyOf, leftOf, goneOf, restOf}
-use Rattle.window.specs.Laws.{TradeInPlace, ReadBack, FreedAreZero, GoneAreTheRest, Places, Laws}
+use Rattle.window.specs.Laws.{TradeInPlace, ReadBack, FreedAreZero, GoneAreTheRest, RestOfAWindow, Places, Laws}
 use Rattle.window.specs.declared.Change.{Change}
-use Rattle.window.proofs.Window.{length-trades, times-of}
+use Rattle.window.proofs.Window.{length-trades, length-rest, times-of, total-parts}
 
 -- ------------------------------------------------------------------ which place is which trade's
 
@@ -101,6 +101,27 @@ unfolding goneOf
 gone-are-the-rest time count times prices h =
     staying-drop time (trades count times prices) ∙ simp (times-of count times prices h, le-leb count (length times) h, if-true)
 
+-- ------------------------------------------------------------------ the figures of those that stay
+
+rest-of-a-window : RestOfAWindow
+unfolding restOf figuresOf total oldest
+rest-of-a-window gone f times prices places figures = go (ltb gone (f .count)) refl
+  where
+    w : List Trade
+    w = trades (f .count) times prices
+
+    sum : f .sum ≡ total (take gone w) + total (drop gone w)
+    sum = ap (λ g. g .sum) figures ∙ total-parts gone w
+
+    go : (b : Bool) → ltb gone (f .count) ≡ b → restOf gone f times prices ≡ figuresOf (drop gone w)
+    go true q =
+        let l : total (take gone w) ≤ f .sum = omega (arith, sum) in
+        let others : f .sum - total (take gone w) ≡ total (drop gone w) = omega (arith, sum) in
+        if-true _ _ _ (search tests) ∙ simp (others, length-rest)
+    go false q =
+        let none : drop gone w ≡ [] = drop-of-length-le w {i = gone} (omega (arith, ltb-false gone (f .count) q, length-trades (f .count) times prices)) in
+        if-false _ _ _ (search tests) ∙ rw none
+
 -- ------------------------------------------------------------------ all of them
 
 written-agree : (change : Change) (count : ℕ) (times prices : List ℕ) (r s : Places) → Written change count times prices (r .times) (r .prices)
@@ -118,8 +139,9 @@ laws = record {
   read-back = read-back;
   freed-are-zero = freed-are-zero;
   gone-are-the-rest = gone-are-the-rest;
+  rest-of-a-window = rest-of-a-window;
   survey-determined = λ clock count times prices. agree (surveyOf clock count times prices);
   gone-determined = λ time count times. agree (goneOf time count times);
-  rest-determined = λ gone count times prices. agree (restOf gone count times prices);
+  rest-determined = λ gone f times prices. agree (restOf gone f times prices);
   write-determined = written-agree;
 }

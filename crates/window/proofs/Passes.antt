@@ -1,17 +1,19 @@
 -- The loops of src/pass.rt: a turn of each and its end, and what the two passes of a survey come to together.
 -- Assumes nothing.
-use Prim.Native.Nat.{ℕ, zero, suc, _+_, _*_, _/_, _%_, _≤_, _<_}
-use mathlib.Core.Bool.{Bool, true, false, _||_}
+use Prim.Native.Nat.{ℕ, zero, suc, _+_, _-_, _*_, _/_, _%_, _^_, _≤_, _<_}
+use mathlib.Core.Bool.{Bool, true, false, _||_, or-false}
 use mathlib.Core.List.{List, [], _∷_, foldl, foldl-append}
 use mathlib.Core.Path.{_≡_, refl, sym, ap, _∙_}
-use native.Mathlib.Nat.{mod-lt, mod-add-div}
+use native.Mathlib.Nat.{mod-lt, mod-eq-of-lt, mod-add-div}
 use native.Mathlib.Numerals.{add-one}
 use native.Mathlib.Omega.{arith}
-use borrow.Author.Tests.{ltb-true, ltb-false, lt-ltb, le-ltb}
+use borrow.Author.Tests.{ltb-true, ltb-false, lt-ltb, le-ltb, ne-eqb}
+use lib.Bits.{bitOr}
 use lib.Dec.{ltb}
 use lib.ListN.{length, getD, take, drop, length-take, drop-of-length-le, List·getD-eq-default}
 use lib.Seq.{take-suc, drop-cons, getD-take, length-take-le}
 use Rattle.forms.specs.Choice.{if_then_else_, anyOf}
+use Rattle.forms.proofs.Bits.{or-left, or-right}
 use Rattle.forms.proofs.Choice.{if-true, if-false}
 use Rattle.forms.proofs.Loops.{fold-turn, fold-end}
 use Rattle.rules.specs.Numbers.{Seen, notPrice, badTrade, see, badTrades}
@@ -46,18 +48,54 @@ latest false clock before t = go (ltb clock before) (ltb clock t) (ltb t before)
     go false false true _ _ _ = refl
     go false false false _ _ _ = refl
 
-pub times-start : (clock : ℕ) (xs : List ℕ) → foldl (seeTime clock) (record { bad = false || ltb clock 0; last = 0 }) xs ≡ timesSeen clock xs
+-- what is seen up to the time t, where `bad` says whether one before it was out of order
+abbrev pub seenTo : ℕ → Bool → ℕ → Seen
+seenTo clock bad t = record { bad = bad || ltb clock t; last = t }
+
+pub no-times : (clock n : ℕ) (xs : List ℕ) → n ≡ 0 → false ≡ timesSeen clock (take n xs) .bad
 unfolding timesSeen
-times-start clock xs = rw (le-ltb clock 0 (omega arith)) refl
+no-times clock n xs e = rw e
 
-module _ (clock n i : ℕ) (xs : List ℕ) (bad : Bool) (before : ℕ) (w : Seen)
-    (so-far : foldl (seeTime clock) (record { bad = bad || ltb clock before; last = before }) (drop i (take n xs)) ≡ w) (m : n ≤ length xs) where
-  pub time-turn : i < n → foldl (seeTime clock) (record { bad = (bad || ltb (getD xs i 0) before) || ltb clock (getD xs i 0); last = getD xs i 0 }) (drop (i + 1) (take n xs)) ≡ w
+-- there is none ahead of the first
+pub times-start : (clock n : ℕ) (xs : List ℕ) → (n ≡ 0 → ⊥) → n ≤ length xs
+    → foldl (seeTime clock) (seenTo clock false (getD xs 0 0)) (drop 1 (take n xs)) ≡ timesSeen clock (take n xs)
+unfolding timesSeen seeTime
+times-start clock n xs some m =
+    turn (seeTime clock) xs n 0 _ _ refl m _ (omega arith) (simp (le-ltb (getD xs 0 0) 0 (omega arith), or-false))
+
+module _ (clock n i : ℕ) (xs : List ℕ) (bad : Bool) (w : Seen)
+    (so-far : foldl (seeTime clock) (seenTo clock bad (getD xs (i - 1) 0)) (drop i (take n xs)) ≡ w) (m : n ≤ length xs) where
+  pub time-turn : i < n
+      → foldl (seeTime clock) (seenTo clock (bad || ltb (getD xs i 0) (getD xs (i - 1) 0)) (getD xs (i + 1 - 1) 0)) (drop (i + 1) (take n xs)) ≡ w
   unfolding seeTime
-  time-turn h = turn (seeTime clock) xs n i _ w so-far m _ h (ap (λ (b : Bool). record { bad = b; last = getD xs i 0 }) (latest bad clock before (getD xs i 0)))
+  time-turn h =
+      let t = getD xs i 0 in
+      let here : i + 1 - 1 ≡ i = omega arith in
+      rw here (turn (seeTime clock) xs n i _ w so-far m _ h (ap (λ (b : Bool). record { bad = b; last = t }) (latest bad clock (getD xs (i - 1) 0) t)))
 
-  pub times-done : n ≤ i → (bad || ltb clock before) ≡ w .bad
-  times-done h = ap (λ (s : Seen). s .bad) (done (seeTime clock) xs n i _ w so-far m h)
+  pub times-done : i ≤ n → n ≤ i → (bad || ltb clock (getD xs (n - 1) 0)) ≡ w .bad
+  times-done h k =
+      let end : n ≡ i = omega arith in
+      rw end (ap (λ (s : Seen). s .bad) (done (seeTime clock) xs n i _ w so-far m k))
+
+-- ------------------------------------------------------------------ the bits of the prices, each less 1
+
+-- where the bits are below 999,999,999, no price so far is out of range
+module _ (n i bits : ℕ) (xs : List ℕ) (so-far : bits < 999_999_999 → pricesBad (take i xs) ≡ false) where
+  pub price-turn : (less : ℕ) → i < n → n ≤ length xs → (less + 1) % 2 ^ 32 ≡ getD xs i 0
+      → bitOr bits less < 999_999_999 → pricesBad (take (i + 1) xs) ≡ false
+  unfolding pricesBad seePrice
+  price-turn less h m e low =
+      let bits-below = or-left bits less in
+      let less-below = or-right bits less in
+      let price : getD xs i 0 ≡ less + 1 = sym e ∙ mod-eq-of-lt (omega arith) in
+      let good = so-far (omega arith) in
+      rw (add-one, take-suc xs i 0 (omega arith), foldl-append, good, price, ne-eqb (less + 1) 0 (λ z. omega arith), le-ltb 999_999_999 (less + 1) (omega arith))
+
+  pub prices-done : i ≤ n → n ≤ i → bits < 999_999_999 → false ≡ pricesBad (take n xs)
+  prices-done h k low =
+      let end : n ≡ i = omega arith in
+      rw end (sym (so-far low))
 
 -- ------------------------------------------------------------------ the sum of prices, in halves
 

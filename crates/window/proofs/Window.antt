@@ -11,7 +11,7 @@ use native.Mathlib.Omega.{arith}
 use borrow.Author.Tests.{le-leb, lt-leb, eq-eqb, ne-eqb, ltb-false}
 use lib.Dec.{eqb}
 use lib.ListN.{length, getD, take, drop, length-append, length-take, length-drop, take-append-drop}
-use lib.Seq.{take-suc, getD-drop, length-take-le}
+use lib.Seq.{take-suc, take-take, getD-drop, length-take-le}
 use Rattle.forms.specs.Choice.{if_then_else_}
 use Rattle.forms.proofs.Choice.{if-true, if-false, if-no, any-head, any-tail, tests}
 use Rattle.rules.specs.Stock.{Trade, total, oldest, figuresOf}
@@ -43,6 +43,11 @@ map-drop f zero w = refl
 map-drop f (suc k) [] = refl
 map-drop f (suc k) (x ∷ w) = map-drop f k w
 
+map-take : {A B : Type 0} (f : A → B) (k : ℕ) (w : List A) → map f (take k w) ≡ take k (map f w)
+map-take f zero w = refl
+map-take f (suc k) [] = refl
+map-take f (suc k) (x ∷ w) = rw (map-take f k w)
+
 -- ------------------------------------------------------------------ its figures
 
 -- the oldest is what stands first, the total the sum of the prices
@@ -55,16 +60,30 @@ total-sum : (w : List Trade) → total w ≡ foldl _+_ 0 (map (λ t. t .price) w
 unfolding total
 total-sum w = sym (foldl-map _ _+_ w 0)
 
--- of the trades without the first k
+pub total-of : (n : ℕ) (ts ps : List ℕ) → n ≤ length ps → total (trades n ts ps) ≡ foldl _+_ 0 (take n ps)
+total-of n ts ps h = simp (total-sum, prices-of n ts ps h)
+
+-- of the first k trades, and of those without them
 module _ (k n : ℕ) (ts ps : List ℕ) where
+  pub total-first : k ≤ n → n ≤ length ps → total (take k (trades n ts ps)) ≡ foldl _+_ 0 (take k ps)
+  total-first h m = simp (total-sum, map-take, prices-of n ts ps m, take-take k n ps h)
+
   pub length-rest : length (drop k (trades n ts ps)) ≡ n - k
   length-rest = simp (length-drop, length-trades)
 
   pub oldest-rest : n ≤ length ts → oldest (drop k (trades n ts ps)) ≡ getD (take n ts) k 0
   oldest-rest h = simp (oldest-first, map-drop, times-of n ts ps h, getD-drop, add-zero)
 
-  pub total-rest : n ≤ length ps → total (drop k (trades n ts ps)) ≡ foldl _+_ 0 (drop k (take n ps))
-  total-rest h = simp (total-sum, map-drop, prices-of n ts ps h)
+-- both parts make up the total
+sum-onto : (a : ℕ) (w : List Trade) → foldl (λ sum t. sum + t .price) a w ≡ a + foldl (λ sum t. sum + t .price) 0 w
+sum-onto a [] = sym (add-zero a)
+sum-onto a (t ∷ w) = omega (arith, sum-onto (a + t .price) w, sum-onto (0 + t .price) w)
+
+pub total-parts : (k : ℕ) (w : List Trade) → total w ≡ total (take k w) + total (drop k w)
+unfolding total
+total-parts k w =
+    let e = foldl-append (λ sum t. sum + t .price) 0 (take k w) (drop k w) ∙ sum-onto _ (drop k w) in
+    rw take-append-drop at e
 
 -- with a trade joined
 total-snoc : (w : List Trade) (t : Trade) → total (w ++ (t ∷ [])) ≡ total w + t .price

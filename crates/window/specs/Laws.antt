@@ -1,15 +1,16 @@
 -- What the places of a window obey. Each field is a theorem: `laws` of proofs/Laws.antt proves the record.
 -- Assumes nothing.
 use Prim.Native.Nat.{ℕ, _≤_, _<_}
+use mathlib.Core.Bool.{true}
 use mathlib.Core.List.{List, map}
 use mathlib.Core.Path.{_≡_}
 use lib.Dec.{ltb}
 use lib.ListN.{length, getD, drop}
 use Rattle.forms.specs.Choice.{if_then_else_}
 use Rattle.forms.specs.Promises.{Determines}
-use Rattle.rules.specs.Stock.{Trade, staying}
+use Rattle.rules.specs.Stock.{Trade, figuresOf, staying}
 use Rattle.rules.specs.declared.Figures.{Figures}
-use Rattle.window.specs.Places.{trades, laid, Written, surveyOf, goneOf, restOf}
+use Rattle.window.specs.Places.{trades, laid, Written, whole, surveyOf, goneOf, restOf}
 use Rattle.window.specs.declared.Change.{Change}
 use Rattle.window.specs.declared.Surveyed.{Surveyed}
 
@@ -37,6 +38,11 @@ abbrev pub GoneAreTheRest : Type 0
 GoneAreTheRest = (time count : ℕ) (times prices : List ℕ) → count ≤ length times
     → staying time (trades count times prices) ≡ drop (goneOf time count times) (trades count times prices)
 
+-- where f are the figures of the window, `restOf` gives the figures of its trades without the `gone` oldest
+abbrev pub RestOfAWindow : Type 0
+RestOfAWindow = (gone : ℕ) (f : Figures) (times prices : List ℕ) → whole (f .count) times prices ≡ true
+    → f ≡ figuresOf (trades (f .count) times prices) → restOf gone f times prices ≡ figuresOf (drop gone (trades (f .count) times prices))
+
 -- both arrays as a call left them
 pub record Places : Type 0 where
   pub times : List ℕ
@@ -48,9 +54,10 @@ pub record Laws : Type 0 where
   pub read-back : ReadBack
   pub freed-are-zero : FreedAreZero
   pub gone-are-the-rest : GoneAreTheRest
+  pub rest-of-a-window : RestOfAWindow
   -- two results that a promise of src/lib.rt allows agree
   pub survey-determined : (clock count : ℕ) (times prices : List ℕ) → Determines (λ (r : Surveyed). r ≡ surveyOf clock count times prices)
   pub gone-determined : (time count : ℕ) (times : List ℕ) → Determines (λ (r : ℕ). r ≡ goneOf time count times)
-  pub rest-determined : (gone count : ℕ) (times prices : List ℕ) → Determines (λ (r : Figures). r ≡ restOf gone count times prices)
+  pub rest-determined : (gone : ℕ) (f : Figures) (times prices : List ℕ) → Determines (λ (r : Figures). r ≡ restOf gone f times prices)
   pub write-determined : (change : Change) (count : ℕ) (times prices : List ℕ)
       → Determines (λ (r : Places). Written change count times prices (r .times) (r .prices))

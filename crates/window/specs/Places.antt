@@ -7,7 +7,7 @@ use mathlib.Core.Path.{_≡_}
 use lib.Dec.{leb, ltb, eqb}
 use lib.ListN.{length, getD, take, drop, replicate}
 use Rattle.forms.specs.Choice.{if_then_else_, allOf}
-use Rattle.rules.specs.Stock.{Trade, figuresOf}
+use Rattle.rules.specs.Stock.{Trade, total, oldest, figuresOf}
 use Rattle.rules.specs.Numbers.{badTrades}
 use Rattle.rules.specs.declared.Figures.{Figures}
 use Rattle.window.specs.declared.Change.{Change}
@@ -70,6 +70,12 @@ leftOf time (u ∷ us) = if ltb time (u + 300_000) then 0 else suc (leftOf time 
 unfoldable pub goneOf : ℕ → ℕ → List ℕ → ℕ
 goneOf time count times = if leb count (length times) then leftOf time (take count times) else 0
 
--- the figures of a window without its oldest trades
-unfoldable pub restOf : ℕ → ℕ → List ℕ → List ℕ → Figures
-restOf gone count times prices = if whole count times prices then figuresOf (drop gone (trades count times prices)) else noFigures
+-- the figures once the `gone` oldest trades have left, from the figures f of all: what left is subtracted from the sum. No figures where
+-- the places are not whole, no trade stays, or the sum is less than that of what left
+unfoldable pub restOf : ℕ → Figures → List ℕ → List ℕ → Figures
+restOf gone f times prices =
+    let w = trades (f .count) times prices in
+    let left = total (take gone w) in
+    if allOf (whole (f .count) times prices ∷ ltb gone (f .count) ∷ leb left (f .sum) ∷ []) then
+    record { count = f .count - gone; oldest = oldest (drop gone w); sum = f .sum - left } else
+    noFigures

@@ -54,7 +54,7 @@ pub fn survey(clock: u32, count: u32, times: &[u32], prices: &[u32]) -> Surveyed
         return none;
     }
     let oldest = pass::at(0, n, times);
-    let sum = pass::sum(0, n, prices);
+    let sum = pass::sum(n, prices);
     Surveyed {
         sound: true,
         figures: Figures { count, oldest, sum },
@@ -73,10 +73,10 @@ pub fn gone(time: u32, count: u32, times: &[u32]) -> u32
     0
 }
 
-// The figures of the window without its `gone` oldest trades; zeros where the parts have not 512 places or
-// more trades are held.
-pub fn rest(gone: u32, count: u32, times: &[u32], prices: &[u32]) -> Figures
-    ensures { λ r. ⌜ r ≡ restOf gone count (now (times .entry)) (now (prices .entry)) ⌝ }
+// The figures of the window without its `gone` oldest trades, from the figures `f` of all of them; zeros where
+// the parts have not 512 places, more trades are held, or the sum is less than that of the trades that left.
+pub fn rest(gone: u32, f: Figures, times: &[u32], prices: &[u32]) -> Figures
+    ensures { λ r. ⌜ r ≡ restOf gone f (now (times .entry)) (now (prices .entry)) ⌝ }
 {
     let none = Figures {
         count: 0,
@@ -89,6 +89,7 @@ pub fn rest(gone: u32, count: u32, times: &[u32], prices: &[u32]) -> Figures
     if prices.len() != 512 {
         return none;
     }
+    let count = f.count;
     if 512 < count {
         return none;
     }
@@ -96,13 +97,14 @@ pub fn rest(gone: u32, count: u32, times: &[u32], prices: &[u32]) -> Figures
         return none;
     }
     let k = gone as usize;
-    let n = count as usize;
-    let oldest = pass::at(k, n, times);
-    let sum = pass::sum(k, n, prices);
+    let left = pass::sum(k, prices);
+    if f.sum < left {
+        return none;
+    }
     Figures {
         count: count - gone,
-        oldest,
-        sum,
+        oldest: pass::at(k, count as usize, times),
+        sum: f.sum - left,
     }
 }
 

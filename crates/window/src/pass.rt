@@ -1,9 +1,9 @@
-// Passes over the places of a window. Each loop's turn is plain comparisons and sums without a branch that
-// leaves it, so that the compiler makes it one of vectors; only `gone_in` ends at the first trade that stays.
+// Passes over the places of a window. Each loop's turn is plain arithmetic without a branch that leaves it, so
+// that the compiler makes it one of vectors; only `gone_in` ends at the first trade that stays.
 ghost use mathlib.Core.Path.{_≡_};
 ghost use mathlib.Core.List.{foldl};
 ghost use Prim.Native.Nat.{_+_, _≤_};
-ghost use lib.ListN.{length, getD, take, drop};
+ghost use lib.ListN.{length, getD, take};
 ghost use Rattle.window.specs.Places.{leftOf};
 ghost use Rattle.window.specs.Passes.{timesSeen, pricesBad};
 use rules::HIGHEST_PRICE;
@@ -13,19 +13,19 @@ pub(crate) fn bad_times(clock: u32, n: usize, times: &[u32]) -> bool
     requires { ⌜ n ≤ length (now times) ⌝ }
     ensures { λ r. ⌜ r ≡ timesSeen clock (take n (now (times .entry))) .bad ⌝ }
 {
+    if n == 0 {
+        return false;
+    }
     let mut bad = false;
-    let mut before: u32 = 0;
-    for i in 0..n {
-        let t = times[i];
-        bad = bad | (t < before);
-        before = t;
+    for i in 1..n {
+        bad = bad | (times[i] < times[i - 1]);
     }
     // of times in order the last is the latest
-    bad | (clock < before)
+    bad | (clock < times[n - 1])
 }
 
-// Whether one of the first `n` prices is out of range.
-pub(crate) fn bad_prices(n: usize, prices: &[u32]) -> bool
+// Whether one of the first `n` prices is out of range, looked at one by one.
+fn any_bad_price(n: usize, prices: &[u32]) -> bool
     requires { ⌜ n ≤ length (now prices) ⌝ }
     ensures { λ r. ⌜ r ≡ pricesBad (take n (now (prices .entry))) ⌝ }
 {
@@ -35,6 +35,22 @@ pub(crate) fn bad_prices(n: usize, prices: &[u32]) -> bool
         bad = bad | (p == 0) | (HIGHEST_PRICE < p);
     }
     bad
+}
+
+// Whether one of the first `n` prices is out of range. Each price less 1, where 0 wraps to 4,294,967,295, is at
+// most the bitwise OR of all of these: where that is below 999,999,999, every price is 1 to 999,999,999.
+pub(crate) fn bad_prices(n: usize, prices: &[u32]) -> bool
+    requires { ⌜ n ≤ length (now prices) ⌝ }
+    ensures { λ r. ⌜ r ≡ pricesBad (take n (now (prices .entry))) ⌝ }
+{
+    let mut bits: u32 = 0;
+    for i in 0..n {
+        bits = bits | std::num::wrapping_sub_u32(prices[i], 1);
+    }
+    if bits < HIGHEST_PRICE {
+        return false;
+    }
+    any_bad_price(n, prices)
 }
 
 // The time in place `i` of the first `n`, 0 past them.
@@ -65,15 +81,15 @@ pub(crate) fn gone_in(time: u32, n: usize, times: &[u32]) -> usize
     k
 }
 
-// The sum of the first `n` prices without the first `from`; their halves of 16 bits are summed apart, so that a
-// turn has no number of 64 bits, of which a vector holds only half as many.
-pub(crate) fn sum(from: usize, n: usize, prices: &[u32]) -> u64
-    requires { ⌜ (from ≤ n) × (n ≤ 512) × (n ≤ length (now prices)) ⌝ }
-    ensures { λ r. ⌜ r ≡ foldl _+_ 0 (drop from (take n (now (prices .entry)))) ⌝ }
+// The sum of the first `n` prices; their halves of 16 bits are summed apart, so that a turn has no number of
+// 64 bits, of which a vector holds only half as many.
+pub(crate) fn sum(n: usize, prices: &[u32]) -> u64
+    requires { ⌜ (n ≤ 512) × (n ≤ length (now prices)) ⌝ }
+    ensures { λ r. ⌜ r ≡ foldl _+_ 0 (take n (now (prices .entry))) ⌝ }
 {
     let mut low: u32 = 0;
     let mut high: u32 = 0;
-    for i in from..n {
+    for i in 0..n {
         let p = prices[i];
         low += p % 65_536;
         high += p / 65_536;

@@ -1,20 +1,30 @@
 use borrow.Author.Needs.{needs}
 use Prim.Native.Nat.{ℕ}
-use mathlib.Core.Path.{_≡_}
+use mathlib.Core.Path.{_≡_, ap, _∙_}
 use Rattle.rules.specs.Stock.{at-time}
 use Rattle.rules.specs.Messages.{timeOf}
-use Rattle.rules.specs.declared.Stock.{Stock}
 use Rattle.rules.specs.declared.Figures.{Figures}
 use Rattle.rules.specs.declared.Message.{Message}
-use Rattle.states.specs.After.{fit, effectAt, effectOf}
+use Rattle.rules.specs.declared.Quotes.{Quotes}
+use Rattle.quotes.specs.Parts.{stockOf, keptOf, bare}
+use Rattle.quotes.specs.declared.Kept.{Kept}
+use Rattle.states.specs.After.{fit, effectAt, effectOf, afterOf}
+use Rattle.states.specs.Turns.{quotesTold, leftTo}
+use Rattle.states.specs.declared.After.{After}
+use Rattle.states.specs.declared.rule.Turn.{Turn}
 use Rattle.states.proofs.after_message.Statement.{statement}
 use Rattle.states.proofs.after_message.Tie as tie
 
-done : (m : Message) (time : ℕ) (f g : Figures) (s t r : Stock) → g ≡ fit f → time ≡ timeOf m → t ≡ at-time time s → r ≡ effectAt m g t
-    → r ≡ effectOf m (fit f) s
+done : (m : Message) (time : ℕ) (f g : Figures) (k n : Kept) (q p : Quotes) (t : Turn) (r : After) → g ≡ fit f → time ≡ timeOf m
+    → n ≡ keptOf (at-time time (bare k)) → ((q : Quotes) → leftTo t g (quotesTold q m) ≡ effectAt m g (stockOf n q)) → p ≡ quotesTold q m
+    → r ≡ afterOf (leftTo t g p) → r ≡ afterOf (effectOf m (fit f) (stockOf k q))
 unfolding effectOf
-done m time f g s t r e u q w = rw (w, q, u, e)
+done m time f g k n q p t r e u h turns ep er =
+    let is : leftTo t g p ≡ effectOf m (fit f) (stockOf k q) = rw (ep, turns q, h, u, e) in
+    er ∙ ap afterOf is
 
 pub after-message-spec : {M : Type 1} → statement M
 after-message-spec =
-    tie.close (tie.spec (λ c κs. search needs) (λ c κs. search needs) (λ c κs. search needs) (λ c κs. search needs) (λ c. search done))
+    tie.close
+    (tie.spec (λ c κs. search needs) (λ c κs. search needs) (λ c κs. search needs) (λ c κs. search needs) (λ c κs. search needs)
+    (λ c κs. search needs) (λ c. search done))

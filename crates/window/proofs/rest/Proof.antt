@@ -1,31 +1,33 @@
-use Prim.Native.Nat.{ℕ, _+_, _-_, _≤_}
+use Prim.Native.Nat.{ℕ, _+_, _-_, _≤_, _<_}
 use mathlib.Core.List.{List, foldl}
-use mathlib.Core.Path.{_≡_}
+use mathlib.Core.Path.{_≡_, sym, _∙_}
 use native.Mathlib.Omega.{arith}
 use borrow.Author.Needs.{needs}
-use lib.ListN.{length, getD, take, drop, drop-of-length-le}
-use Rattle.forms.proofs.Choice.{tests, if-true}
-use Rattle.rules.specs.Stock.{total, oldest, figuresOf}
+use lib.ListN.{length, getD, take}
+use Rattle.forms.proofs.Choice.{tests, goes}
+use Rattle.rules.specs.Stock.{total}
 use Rattle.rules.specs.declared.Figures.{Figures}
 use Rattle.window.specs.Places.{trades, whole, noFigures, restOf}
-use Rattle.window.proofs.Window.{is-whole, length-trades, length-rest, oldest-rest, total-rest}
+use Rattle.window.proofs.Window.{is-whole, oldest-rest, total-first}
 use Rattle.window.proofs.rest.Statement.{statement}
 use Rattle.window.proofs.rest.Tie as tie
 
-module _ (k n : ℕ) (ts ps : List ℕ) (lt : length ts ≡ 512) (lp : length ps ≡ 512) (h : n ≤ 512) where
-  none-left : n ≤ k → noFigures ≡ restOf k n ts ps
-  unfolding restOf figuresOf total oldest
-  none-left i =
-      let e = drop-of-length-le (trades n ts ps) {i = k} (omega (arith, length-trades n ts ps)) in
-      simp (is-whole n ts ps lt lp h, if-true, e)
+module _ (k : ℕ) (f : Figures) (ts ps : List ℕ) (lt : length ts ≡ 512) (lp : length ps ≡ 512) (h : f .count ≤ 512) (i : k < f .count) (s : ℕ)
+    (e : s ≡ foldl _+_ 0 (take k ps)) where
+  left : s ≡ total (take k (trades (f .count) ts ps))
+  left = e ∙ sym (total-first k (f .count) ts ps (omega arith) (omega arith))
 
-  some-left : (o s : ℕ) → o ≡ getD (take n ts) k 0 → s ≡ foldl _+_ 0 (drop k (take n ps))
-      → _≡_ {A = Figures} (record { count = n - k; oldest = o; sum = s }) (restOf k n ts ps)
-  unfolding restOf figuresOf
-  some-left o s e f =
-      let a : n ≤ length ts = omega arith in
-      let b : n ≤ length ps = omega arith in
-      simp (is-whole n ts ps lt lp h, if-true, e, f, length-rest, oldest-rest k n ts ps a, total-rest k n ts ps b)
+  too-little : f .sum < s → noFigures ≡ restOf k f ts ps
+  unfolding restOf
+  too-little l = let q = rw left at l in search tests
+
+  some-left : (o : ℕ) → s ≤ f .sum → o ≡ getD (take (f .count) ts) k 0
+      → _≡_ {A = Figures} (record { count = f .count - k; oldest = o; sum = f .sum - s }) (restOf k f ts ps)
+  unfolding restOf
+  some-left o l g =
+      let q = rw left at l in
+      let w = is-whole (f .count) ts ps lt lp h in
+      goes _ _ _ _ (search tests) (simp (left, g, oldest-rest k (f .count) ts ps (omega arith)))
 
 returns : tie.Need-returns
 unfolding restOf whole
@@ -40,12 +42,17 @@ unfolding restOf whole
 returns-3 c = search tests
 
 returns-4 : tie.Need-returns-4
-returns-4 c = search none-left
+unfolding restOf
+returns-4 c = search tests
 
 returns-5 : tie.Need-returns-5
-returns-5 c = search some-left
+returns-5 c = search too-little
+
+returns-6 : tie.Need-returns-6
+returns-6 c = search some-left
 
 pub rest-spec : {M : Type 1} → statement M
 rest-spec =
     tie.close
-    (tie.spec returns returns-2 returns-3 returns-4 (λ c κs. search needs) (λ c κs. search needs) (λ c. search needs) returns-5)
+    (tie.spec returns returns-2 returns-3 returns-4 (λ c κs. search needs) returns-5 (λ c. search needs) (λ c. search needs) (λ c κs. search needs)
+    returns-6)

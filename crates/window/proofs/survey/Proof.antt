@@ -4,14 +4,14 @@ use mathlib.Core.List.{List, foldl}
 use mathlib.Core.Path.{_≡_, sym, _∙_}
 use native.Mathlib.Omega.{arith}
 use borrow.Author.Needs.{needs}
-use lib.ListN.{length, getD, take, drop}
+use lib.ListN.{length, getD, take}
 use Rattle.forms.proofs.Choice.{tests, if-true, if-false, all-yes, all-empty, all-not-here, all-not-there}
 use Rattle.rules.specs.Stock.{figuresOf}
 use Rattle.rules.specs.Numbers.{badTrades}
 use Rattle.window.specs.Places.{trades, whole, noFigures, surveyOf}
 use Rattle.window.specs.Passes.{timesSeen, pricesBad}
 use Rattle.window.specs.declared.Surveyed.{Surveyed}
-use Rattle.window.proofs.Window.{is-whole, length-trades, oldest-rest, total-rest}
+use Rattle.window.proofs.Window.{is-whole, length-trades, oldest-rest, total-of}
 use Rattle.window.proofs.Passes.{judged}
 use Rattle.window.proofs.survey.Statement.{statement}
 use Rattle.window.proofs.survey.Tie as tie
@@ -27,7 +27,7 @@ module _ (clock n : ℕ) (ts ps : List ℕ) (lt : length ts ≡ 512) (lp : lengt
       let q : not (badTrades clock (trades n ts ps)) ≡ false = rw (both, e) in
       sym (if-false _ _ _ (all-not-there _ _ (all-not-here _ _ q)))
 
-  sound : (o s : ℕ) → (late || wrong) ≡ false → o ≡ getD (take n ts) 0 0 → s ≡ foldl _+_ 0 (drop 0 (take n ps))
+  sound : (o s : ℕ) → (late || wrong) ≡ false → o ≡ getD (take n ts) 0 0 → s ≡ foldl _+_ 0 (take n ps)
       → _≡_ {A = Surveyed} (record { sound = true; figures = record { count = n; oldest = o; sum = s } }) (surveyOf clock n ts ps)
   unfolding surveyOf figuresOf
   sound o s e f g =
@@ -35,7 +35,7 @@ module _ (clock n : ℕ) (ts ps : List ℕ) (lt : length ts ≡ 512) (lp : lengt
       let a : n ≤ length ts = omega arith in
       let b : n ≤ length ps = omega arith in
       sym (if-true _ _ _ (all-yes _ _ (is-whole n ts ps lt lp h) (all-yes _ _ q all-empty))
-      ∙ simp (length-trades, oldest-rest 0 n ts ps a, total-rest 0 n ts ps b, f, g))
+      ∙ simp (length-trades, oldest-rest 0 n ts ps a, total-of n ts ps b, f, g))
 
 returns : tie.Need-returns
 unfolding surveyOf whole

@@ -10,7 +10,10 @@ use Rattle.rules.specs.Quotes.{straddle}
 use Rattle.rules.specs.Numbers.{ownChecks}
 use Rattle.rules.specs.declared.Message.{Message}
 use Rattle.rules.specs.declared.Message.the-variants.{Trade}
+use Rattle.rules.specs.declared.Quotes.{Quotes}
 use Rattle.rules.specs.declared.Stock.{Stock}
+use Rattle.quotes.specs.Parts.{stockOf}
+use Rattle.quotes.specs.declared.Kept.{Kept}
 use Rattle.judge.proofs.message.own_refusal.Statement.{statement}
 use Rattle.judge.proofs.message.own_refusal.Tie as tie
 
@@ -18,10 +21,10 @@ use Rattle.judge.proofs.message.own_refusal.Tie as tie
 by-letter : (m n : Message) (held : ℕ) (s : Stock) (r : ℕ) → m ≡ n → r ≡ first (ownChecks n held s) → r ≡ first (ownChecks m held s)
 by-letter m n held s r e q = rw e q
 
--- at the time of the message, since a trade's checks do not ask it
-of-trade : (time price held : ℕ) (s : Stock) (r : ℕ) → ((t : ℕ) → r ≡ first (ownChecks (Trade t price) held s))
-    → r ≡ first (ownChecks (Trade time price) held s)
-of-trade time price held s r q = q time
+-- at the time of the message and beside any quotes, since a trade's checks ask neither
+of-trade : (time price held : ℕ) (k : Kept) (q : Quotes) (r : ℕ) → ((t : ℕ) (q : Quotes) → r ≡ first (ownChecks (Trade t price) held (stockOf k q)))
+    → r ≡ first (ownChecks (Trade time price) held (stockOf k q))
+of-trade time price held k q r e = e time q
 
 -- by what a call answered
 of-pause : (s : Stock) (b : Bool) (r : ℕ) → b ≡ straddle s → r ≡ first (9 when not b ∷ []) → r ≡ first (9 when not (straddle s) ∷ [])

@@ -4,4 +4,7 @@ use Rattle.states.proofs.rule.first_five.Statement.{statement}
 use Rattle.states.proofs.rule.first_five.Tie as tie
 
 pub first-five-spec : {M : Type 1} → statement M
-first-five-spec = tie.close (tie.spec (λ c κs. search needs) (λ c. search five-none) (λ c κs. search needs) (λ c κs. search needs) (λ c. search five-some))
+first-five-spec =
+    tie.close
+    (tie.spec (λ c κs. search needs) (λ c κs. search needs) (λ c. search five-none) (λ c κs. search needs) (λ c κs. search needs)
+    (λ c. search five-some))

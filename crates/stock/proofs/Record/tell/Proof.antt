@@ -1,61 +1,42 @@
 use borrow.Author.Needs.{needs}
+use Rattle.stock.specs.View.{bytes}
 use Rattle.stock.proofs.Calls.{message-held, told-done, told-refused}
 use Rattle.stock.proofs.Record.tell.Statement.{statement}
 use Rattle.stock.proofs.Record.tell.Tie as tie
 
-see-requires : tie.Need-see-requires
-see-requires c κs = search needs
-
-message-number-requires : tie.Need-message-number-requires
-message-number-requires c κs = search needs
-
 after-message-requires : tie.Need-after-message-requires
 after-message-requires c κs =
     let d = c .before .before .before in
-    search (message-held, d .before .before .see .ensures, d .before .message-number .ensures, d .if1 .taken)
-
-write-requires : tie.Need-write-requires
-write-requires c κs = search needs
-
-answer-of-requires : tie.Need-answer-of-requires
-answer-of-requires c κs = search needs
-
-same-length : tie.Need-same-length
-same-length c = search needs
-
-same-length-2 : tie.Need-same-length-2
-same-length-2 c = search needs
+    let a = d .before .before .before .before .before .before .before .before .before .before .args in
+    message-held (bytes (a .self) (a .times .now) (a .prices .now)) _ (d .before .before .before .before .before .kept-of .ensures) _ (d .before .before .see .ensures) _ _
+    (d .before .message-number .ensures) (d .if1 .taken)
 
 returns : tie.Need-returns
-returns c = search told-done
-
-refused-requires : tie.Need-refused-requires
-refused-requires c κs = search needs
-
-same-length-3 : tie.Need-same-length-3
-same-length-3 c = search needs
-
-same-length-4 : tie.Need-same-length-4
-same-length-4 c = search needs
+returns c =
+    let step = c .before .before .before .before .before .before .before .before .before .before .before .before in
+    let d = step .before .before .before .before in
+    search (
+      told-done,
+      d .before .before .before .before .before .kept-of .ensures,
+      d .before .before .see .ensures,
+      d .before .message-number .ensures,
+      d .if1 .taken,
+      step .after-message .ensures,
+      c .before .before .before .before .before .before .write .ensures,
+      c .before .with-shown .ensures,
+      c .record-of .ensures,
+    )
 
 returns-2 : tie.Need-returns-2
 returns-2 c =
     let d = c .before in
-    search (told-refused, d .before .before .see .ensures, d .before .message-number .ensures, d .if1 .left, c .refused .ensures)
+    let a = d .before .before .before .before .before .before .before .before .before .before .args in
+    told-refused (bytes (a .self) (a .times .now) (a .prices .now)) _ (d .before .before .before .before .before .kept-of .ensures) _ (d .before .before .see .ensures) _ _
+    (d .before .message-number .ensures) _ (d .if1 .left) (c .answer-of .ensures)
 
 pub tell-spec : {M : Type 1} → statement M
 tell-spec =
     tie.close
-    (tie.spec
-    see-requires
-    message-number-requires
-    after-message-requires
-    write-requires
-    answer-of-requires
-    same-length
-    same-length-2
-    returns
-    refused-requires
-    same-length-3
-    same-length-4
-    returns-2)
+    (tie.spec (λ c κs. search needs) (λ c κs. search needs) (λ c κs. search needs) after-message-requires (λ c κs. search needs)
+    (λ c κs. search needs) (λ c κs. search needs) (λ c. search needs) (λ c. search needs) returns (λ c κs. search needs)
+    (λ c. search needs) (λ c. search needs) returns-2)

@@ -7,33 +7,35 @@ use lib.Dec.{eqb}
 use Rattle.forms.specs.Choice.{anyOf}
 use Rattle.forms.proofs.Choice.{if-true, if-false}
 use Rattle.forms.proofs.Bools.{joined}
-use Rattle.rules.specs.Stock.{stateOf}
 use Rattle.rules.specs.Numbers.{zeros, answer}
 use Rattle.rules.specs.declared.Answer.{Answer}
-use Rattle.rules.specs.declared.Stock.{Stock}
+use Rattle.rules.specs.declared.Quotes.{Quotes}
+use Rattle.quotes.specs.Parts.{stockOf, basisOf, stockBy}
 use Rattle.quotes.specs.Shown.{shownOf}
+use Rattle.quotes.specs.declared.Basis.{Basis}
+use Rattle.quotes.specs.declared.Kept.{Kept}
 use Rattle.quotes.specs.declared.Shown.{Shown}
+use Rattle.quotes.proofs.Laws as quotes
+use Rattle.stock.specs.Steps.{answerBy}
 use Rattle.stock.proofs.answers.answer_of.Statement.{statement}
 use Rattle.stock.proofs.answers.answer_of.Tie as tie
 
-module _ (n : ℕ) (s : Stock) where
+module _ (n : ℕ) (k : Kept) (q : Quotes) where
   tested : (b : Bool) → ((eqb n 1 || eqb n 2) || eqb n 3) ≡ b → anyOf (eqb n 1 ∷ eqb n 2 ∷ eqb n 3 ∷ []) ≡ b
   tested b e = let same : anyOf (eqb n 1 ∷ eqb n 2 ∷ eqb n 3 ∷ []) ≡ ((eqb n 1 || eqb n 2) || eqb n 3) = simp joined in same ∙ e
 
-  blank : ((eqb n 1 || eqb n 2) || eqb n 3) ≡ true → zeros n ≡ answer n s
+  blank : ((eqb n 1 || eqb n 2) || eqb n 3) ≡ true → zeros n ≡ answer n (stockOf k q)
   unfolding answer
   blank e = simp (tested true e, if-true)
 
-  shown : (r : Shown) → ((eqb n 1 || eqb n 2) || eqb n 3) ≡ false → r ≡ shownOf s
-      → _≡_ {A = Answer} (record { number = n; state = stateOf s; reference = s .reference .price; bands = r .bands; best = r .best }) (answer n s)
+  shown : (b : Basis) (s : Shown) (a : Answer) → ((eqb n 1 || eqb n 2) || eqb n 3) ≡ false → b ≡ basisOf k → s ≡ shownOf (stockBy b q)
+      → a ≡ answerBy n k s → a ≡ answer n (stockOf k q)
   unfolding answer
-  shown r e f = simp (tested false e, if-false, f)
-
-returns : tie.Need-returns
-returns c = search blank
-
-returns-2 : tie.Need-returns-2
-returns-2 c = search shown
+  shown b s a e eb es ea =
+      let is : s ≡ shownOf (stockOf k q) = es ∙ rw eb (quotes.laws .shown-by-basis k q) in
+      simp (tested false e, if-false, ea, is)
 
 pub answer-of-spec : {M : Type 1} → statement M
-answer-of-spec = tie.close (tie.spec returns (λ c κs. search needs) returns-2)
+answer-of-spec =
+    tie.close
+    (tie.spec (λ c. search blank) (λ c κs. search needs) (λ c κs. search needs) (λ c κs. search needs) (λ c. search shown))

@@ -8,12 +8,12 @@ use Rattle.window.proofs.pass.sum.Statement.{statement}
 use Rattle.window.proofs.pass.sum.Tie as tie
 
 abbrev Inv-loop : tie.InvT-loop
-Inv-loop from n prices low₀ high₀ i₀ low high i =
+Inv-loop n prices low₀ high₀ i₀ low high i =
     (i ≤ n) × (low ≤ 65_535 * i) × (high ≤ 65_535 * i)
-    × (foldl _+_ (65_536 * high + low) (drop i (take n prices)) ≡ foldl _+_ 0 (drop from (take n prices)))
+    × (foldl _+_ (65_536 * high + low) (drop i (take n prices)) ≡ foldl _+_ 0 (take n prices))
 
 abbrev μ-loop : tie.MeasureT-loop
-μ-loop from n prices low₀ high₀ i₀ low high i = n - i
+μ-loop n prices low₀ high₀ i₀ low high i = n - i
 
 loop-holds : tie.Need-loop-holds Inv-loop μ-loop
 loop-holds c = (omega arith, omega arith, omega arith, refl)

@@ -1,0 +1,42 @@
+-- A stock and its parts: what functions speak of that take no whole stock.
+-- Assumes nothing.
+use Rattle.rules.specs.States.{noQuotes}
+use Rattle.rules.specs.declared.Quotes.{Quotes}
+use Rattle.rules.specs.declared.Stock.{Stock}
+use Rattle.quotes.specs.declared.Basis.{Basis}
+use Rattle.quotes.specs.declared.Kept.{Kept}
+
+-- the stock that has these parts
+abbrev pub stockOf : Kept → Quotes → Stock
+stockOf k q = record { setup = k .setup; end = k .end; course = k .course; reference = k .reference; quotes = q }
+
+-- a stock without its quotes
+abbrev pub keptOf : Stock → Kept
+keptOf s = record { setup = s .setup; end = s .end; course = s .course; reference = s .reference }
+
+-- the same as a stock that has no quote
+abbrev pub bare : Kept → Stock
+bare k = stockOf k noQuotes
+
+-- what the bands of a stock go by
+abbrev pub basisOf : Kept → Basis
+basisOf k = record {
+  tier = k .setup .tier;
+  leverage = k .setup .leverage;
+  close = k .setup .close;
+  end = k .end;
+  state = k .course .state;
+  clock = k .course .clock;
+  entry = k .course .entry;
+  price = k .reference .price;
+}
+
+-- a stock whose bands go by this, with these quotes: what neither asks is 0
+abbrev pub stockBy : Basis → Quotes → Stock
+stockBy b q = record {
+  setup = record { tier = b .tier; leverage = b .leverage; primary = 0; close = b .close };
+  end = b .end;
+  course = record { state = b .state; clock = b .clock; early = 0; entry = b .entry; pause = 0 };
+  reference = record { price = b .price; start = 0; hold = 0 };
+  quotes = q;
+}

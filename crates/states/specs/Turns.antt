@@ -1,0 +1,59 @@
+-- What the private functions of a step promise each other.
+-- Assumes nothing.
+use Prim.Native.Nat.{ℕ}
+use mathlib.Core.Bool.{true}
+use mathlib.Core.List.{[], _∷_}
+use mathlib.Core.Path.{_≡_}
+use lib.Dec.{eqb}
+use lib.ListN.{set}
+use Rattle.forms.specs.Choice.{if_then_else_, anyOf}
+use Rattle.rules.specs.Stock.{Trading, noTrades, meanIn}
+use Rattle.rules.specs.States.{look, noQuotes}
+use Rattle.rules.specs.Moments.{mark-z, mark-c}
+use Rattle.rules.specs.Messages.{quoteRules}
+use Rattle.rules.specs.declared.Figures.{Figures}
+use Rattle.rules.specs.declared.Message.{Message}
+use Rattle.rules.specs.declared.Message.the-variants.{Trade as T, Quote as Q, Opening as O, Pause as P, Reopening as R, Closing as X}
+use Rattle.rules.specs.declared.Quotes.{Quotes}
+use Rattle.rules.specs.declared.Stock.{Stock}
+use Rattle.quotes.specs.Parts.{stockOf}
+use Rattle.quotes.specs.declared.Kept.{Kept}
+use Rattle.states.specs.declared.rule.Turn.{Turn}
+
+-- ------------------------------------------------------------------ the quotes after a step
+
+-- one participant's bid and offer are set
+abbrev pub withQuote : ℕ → ℕ → ℕ → Quotes → Quotes
+withQuote participant bid offer q = record { bids = set (q .bids) participant bid; offers = set (q .offers) participant offer }
+
+-- Q sets a participant's, X leaves none
+unfoldable pub quotesTold : Quotes → Message → Quotes
+quotesTold q (T time price) = q
+quotesTold q (Q time participant bid offer) = withQuote participant bid offer q
+quotesTold q (O time participant price) = q
+quotesTold q (P time participant) = q
+quotesTold q (R time participant price) = q
+quotesTold q (X time participant price) = noQuotes
+
+-- z and c leave none
+unfoldable pub quotesAt : ℕ → Quotes → Quotes
+quotesAt mark q = if anyOf (eqb mark mark-z ∷ eqb mark mark-c ∷ []) then noQuotes else q
+
+-- ------------------------------------------------------------------ a step, before the quotes are looked at
+
+-- the stock once they are, where it is to look at them
+unfoldable pub turnedTo : Turn → Quotes → Stock
+turnedTo t q = if t .looks then look (stockOf (t .kept) q) else stockOf (t .kept) q
+
+-- the same where Limit may end
+unfoldable pub leftTo : Turn → Figures → Quotes → Stock
+leftTo t f q = if t .looks then quoteRules f (stockOf (t .kept) q) else stockOf (t .kept) q
+
+-- the reference's price once Limit has ended: the mean, where there is a trade
+abbrev pub leftPrice : Figures → ℕ → ℕ
+leftPrice f price = if noTrades f then price else meanIn f
+
+-- the turn by a rule: it makes of the stock what the rule makes of it, whatever the quotes are, and looks at them in Trading alone
+pub record Turns (rule : Stock → Stock) (k : Kept) (t : Turn) : Type 0 where
+  pub made : (q : Quotes) → turnedTo t q ≡ rule (stockOf k q)
+  pub in-trading : t .looks ≡ true → t .kept .course .state ≡ Trading
