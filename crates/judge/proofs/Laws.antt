@@ -1,15 +1,28 @@
 -- The laws of specs/Laws.antt.
 -- Assumes nothing.
+use mathlib.Core.Path.{refl}
+use borrow.Author.Tests.{le-ltb}
+use lib.ListN.{length}
+use Rattle.forms.proofs.Bools.{joined}
 use Rattle.forms.proofs.Promises.{agree}
 use Rattle.forms.specs.Checks.{first}
 use Rattle.rules.specs.Messages.{timeOf}
-use Rattle.rules.specs.Numbers.{badEnd, badSetup, messageChecks, timeChecks}
+use Rattle.rules.specs.Numbers.{badEnd, badSetup, rubbish, messageChecks, timeChecks}
 use Rattle.quotes.specs.Parts.{stockOf, bare}
 use Rattle.judge.specs.Verdict.{verdictOf}
-use Rattle.judge.specs.Laws.{Laws}
+use Rattle.judge.specs.Laws.{EarliestIs, RubbishIs, Laws}
+
+earliest-is : EarliestIs
+earliest-is h = refl
+
+rubbish-is : RubbishIs
+unfolding rubbish
+rubbish-is h few good = simp (le-ltb 512 (length (h .window)) few, good, joined)
 
 pub laws : Laws
 laws = record {
+  earliest-is = earliest-is;
+  rubbish-is = rubbish-is;
   time-of-determined = λ m. agree (timeOf m);
   bad-end-determined = λ end. agree (badEnd end);
   bad-setup-determined = λ u. agree (badSetup u);

@@ -1,11 +1,15 @@
 -- What the promises of judge obey. Each field is a theorem: `laws` of proofs/Laws.antt proves the record.
 -- Assumes nothing.
-use Prim.Native.Nat.{ℕ}
+use Prim.Native.Nat.{ℕ, _≤_}
+use mathlib.Core.Bool.{false}
 use mathlib.Core.Path.{_≡_}
+use lib.ListN.{length}
 use Rattle.forms.specs.Checks.{first}
 use Rattle.forms.specs.Promises.{Determines}
+use Rattle.rules.specs.Stock.{Whole, clockOf, figuresOf}
+use Rattle.rules.specs.Moments.{nextOf}
 use Rattle.rules.specs.Messages.{timeOf}
-use Rattle.rules.specs.Numbers.{badEnd, badSetup, messageChecks, timeChecks}
+use Rattle.rules.specs.Numbers.{badEnd, badSetup, badTrades, rubbish, messageChecks, timeChecks}
 use Rattle.quotes.specs.Parts.{stockOf, bare}
 use Rattle.quotes.specs.declared.Kept.{Kept}
 use Rattle.judge.specs.Verdict.{verdictOf}
@@ -15,7 +19,18 @@ use Rattle.rules.specs.declared.Moment.{Moment}
 use Rattle.rules.specs.declared.Quotes.{Quotes}
 use Rattle.rules.specs.declared.Setup.{Setup}
 
+-- what is found of a stock is what the rules find of it with its window: its earliest moment, and, of no more than 512 trades that are all
+-- good, whether it is rubbish
+abbrev pub EarliestIs : Type 0
+EarliestIs = (h : Whole) → verdictOf (figuresOf (h .window)) (h .stock) .earliest ≡ nextOf h
+
+abbrev pub RubbishIs : Type 0
+RubbishIs = (h : Whole) → length (h .window) ≤ 512 → badTrades (clockOf (h .stock)) (h .window) ≡ false
+    → verdictOf (figuresOf (h .window)) (h .stock) .rubbish ≡ rubbish h
+
 pub record Laws : Type 0 where
+  pub earliest-is : EarliestIs
+  pub rubbish-is : RubbishIs
   -- two results that a promise of src/lib.rt allows agree ("How much a promise says")
   pub time-of-determined : (m : Message) → Determines (λ r. r ≡ timeOf m)
   pub bad-end-determined : (end : ℕ) → Determines (λ r. r ≡ badEnd end)

@@ -13,7 +13,7 @@ use Rattle.quotes.specs.Parts.{stockOf}
 use Rattle.quotes.specs.Shown.{shownOf}
 use Rattle.quotes.proofs.Laws as quotes
 use Rattle.states.specs.After.{fit, effectAt, effectOf, afterOf}
-use Rattle.states.specs.Laws.{AsTheRules, FitsAsItIs, LookShowsTheSame, Laws}
+use Rattle.states.specs.Laws.{AsTheRules, FitsAsItIs, AfterIs, LookShowsTheSame, Laws}
 
 as-the-rules : AsTheRules
 unfolding after does effectOf effectAt
@@ -28,6 +28,9 @@ fits-as-it-is : FitsAsItIs
 unfolding fit
 fits-as-it-is f h = if-false _ _ _ (le-ltb _ _ h)
 
+after-is : AfterIs
+after-is s = (refl, refl)
+
 look-shows-the-same : LookShowsTheSame
 unfolding look
 look-shows-the-same s =
@@ -37,6 +40,7 @@ pub laws : Laws
 laws = record {
   as-the-rules = as-the-rules;
   fits-as-it-is = fits-as-it-is;
+  after-is = after-is;
   look-shows-the-same = look-shows-the-same;
   after-message-determined = λ m f k q. agree (afterOf (effectOf m (fit f) (stockOf k q)));
   after-moment-determined = λ mark time f k q. agree (afterOf (effect mark (fit f) (at-time time (stockOf k q))));

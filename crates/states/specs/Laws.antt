@@ -3,6 +3,7 @@
 use Prim.Native.Nat.{ℕ}
 use mathlib.Core.Path.{_≡_}
 use Rattle.forms.specs.Promises.{Determines}
+use Rattle.forms.specs.Words.{_and_}
 use Rattle.rules.specs.Stock.{Whole, figuresOf, at-time}
 use Rattle.rules.specs.States.{look}
 use Rattle.rules.specs.Moments.{effect}
@@ -25,6 +26,10 @@ AsTheRules = (m : Message) (h : Whole) → effectOf m (figuresOf (after m h .win
 abbrev pub FitsAsItIs : Type 0
 FitsAsItIs = (f : Figures) → Fits f → fit f ≡ f
 
+-- a stock with what it shows is that stock, by its parts, and what it shows
+abbrev pub AfterIs : Type 0
+AfterIs = (s : Stock) → stockOf (afterOf s .kept) (afterOf s .quotes) ≡ s and afterOf s .shown ≡ shownOf s
+
 -- to look at the quotes changes nothing that is shown, also where Limit is entered
 abbrev pub LookShowsTheSame : Type 0
 LookShowsTheSame = (s : Stock) → shownOf (look s) ≡ shownOf s
@@ -32,6 +37,7 @@ LookShowsTheSame = (s : Stock) → shownOf (look s) ≡ shownOf s
 pub record Laws : Type 0 where
   pub as-the-rules : AsTheRules
   pub fits-as-it-is : FitsAsItIs
+  pub after-is : AfterIs
   pub look-shows-the-same : LookShowsTheSame
   -- two results that a promise of src/lib.rt allows agree
   pub after-message-determined : (m : Message) (f : Figures) (k : Kept) (q : Quotes)
