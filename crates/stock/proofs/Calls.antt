@@ -136,7 +136,10 @@ unfolding answer anyOf if_then_else_
 answer-is step s a e f = rw (f, e)
 
 -- a call takes its stock apart
-module _ (b : Bytes) (p : Kept) (ep : p ≡ keptOf (b .kept .stock)) where
+module _ (r : Record) (ts ps : List ℕ) (p : Kept) (ep : p ≡ keptOf (r .stock)) where
+  abbrev b : Bytes
+  b = bytes r ts ps
+
   abbrev parts : Record
   parts = recordOf p (b .kept .stock .quotes) (b .kept .count)
 

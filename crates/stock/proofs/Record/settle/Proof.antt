@@ -1,5 +1,4 @@
 use borrow.Author.Needs.{needs}
-use Rattle.stock.specs.View.{bytes}
 use Rattle.stock.proofs.Calls.{moment-held, settled-done, settled-refused}
 use Rattle.stock.proofs.Record.settle.Statement.{statement}
 use Rattle.stock.proofs.Record.settle.Tie as tie
@@ -7,9 +6,8 @@ use Rattle.stock.proofs.Record.settle.Tie as tie
 after-moment-requires : tie.Need-after-moment-requires
 after-moment-requires c κs =
     let d = c .before .before .before .before in
-    let a = d .before .before .before .before .before .before .before .before .before .before .args in
-    moment-held (bytes (a .self) (a .times .now) (a .prices .now)) _ (d .before .before .before .before .before .kept-of .ensures) _ (d .before .before .see .ensures) _ _
-    (d .before .settle-number .ensures) (d .if1 .taken)
+    let r = d .before .before .before .before .before .before .before .before .before .before .args .self in
+    moment-held r _ _ _ (d .before .before .before .before .before .kept-of .ensures) _ (d .before .before .see .ensures) _ _ (d .before .settle-number .ensures) (d .if1 .taken)
 
 returns : tie.Need-returns
 returns c =
@@ -30,9 +28,7 @@ returns c =
 returns-2 : tie.Need-returns-2
 returns-2 c =
     let d = c .before in
-    let a = d .before .before .before .before .before .before .before .before .before .before .args in
-    settled-refused (bytes (a .self) (a .times .now) (a .prices .now)) _ (d .before .before .before .before .before .kept-of .ensures) _ (d .before .before .see .ensures) _ _
-    (d .before .settle-number .ensures) _ (d .if1 .left) (c .answer-of .ensures)
+    search (settled-refused, d .before .before .before .before .before .kept-of .ensures, d .before .before .see .ensures, d .before .settle-number .ensures, d .if1 .left, c .answer-of .ensures)
 
 pub settle-spec : {M : Type 1} → statement M
 settle-spec =

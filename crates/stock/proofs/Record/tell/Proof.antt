@@ -1,5 +1,4 @@
 use borrow.Author.Needs.{needs}
-use Rattle.stock.specs.View.{bytes}
 use Rattle.stock.proofs.Calls.{message-held, told-done, told-refused}
 use Rattle.stock.proofs.Record.tell.Statement.{statement}
 use Rattle.stock.proofs.Record.tell.Tie as tie
@@ -7,9 +6,7 @@ use Rattle.stock.proofs.Record.tell.Tie as tie
 after-message-requires : tie.Need-after-message-requires
 after-message-requires c κs =
     let d = c .before .before .before in
-    let a = d .before .before .before .before .before .before .before .before .before .before .args in
-    message-held (bytes (a .self) (a .times .now) (a .prices .now)) _ (d .before .before .before .before .before .kept-of .ensures) _ (d .before .before .see .ensures) _ _
-    (d .before .message-number .ensures) (d .if1 .taken)
+    search (message-held, d .before .before .before .before .before .kept-of .ensures, d .before .before .see .ensures, d .before .message-number .ensures, d .if1 .taken)
 
 returns : tie.Need-returns
 returns c =
@@ -30,9 +27,7 @@ returns c =
 returns-2 : tie.Need-returns-2
 returns-2 c =
     let d = c .before in
-    let a = d .before .before .before .before .before .before .before .before .before .before .args in
-    told-refused (bytes (a .self) (a .times .now) (a .prices .now)) _ (d .before .before .before .before .before .kept-of .ensures) _ (d .before .before .see .ensures) _ _
-    (d .before .message-number .ensures) _ (d .if1 .left) (c .answer-of .ensures)
+    search (told-refused, d .before .before .before .before .before .kept-of .ensures, d .before .before .see .ensures, d .before .message-number .ensures, d .if1 .left, c .answer-of .ensures)
 
 pub tell-spec : {M : Type 1} → statement M
 tell-spec =
