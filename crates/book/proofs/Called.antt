@@ -88,6 +88,7 @@ module _ {A : Type 0} (i n : ℕ) (step : Bytes → Outcome A) (beside : ℕ →
       let stays : set (b .records) i kept ≡ b .records = rw same (set-getD (b .records) i noRecord) in
       ap (λ records. record { answer = a; book = lent records times prices }) (sym stays) ∙ done-in e t kept times prices p
 
+-- a refusal leaves every byte of the stock
 pub told-unchanged : (m : Message) (x : Bytes) → ¬ (telling m x .answer .number ≡ 0) → telling m x .bytes ≡ x
 told-unchanged m x = stock.laws .told-refused m x (record { answer = telling m x .answer; next = telling m x .bytes .kept }) _ _ refl
 

@@ -10,7 +10,7 @@ use Rattle.rules.specs.Messages.{timeOf}
 use Rattle.rules.specs.Numbers.{badEnd, badSetup, rubbish, messageChecks, timeChecks}
 use Rattle.quotes.specs.Parts.{stockOf, bare}
 use Rattle.judge.specs.Verdict.{verdictOf}
-use Rattle.judge.specs.Laws.{EarliestIs, RubbishIs, Laws}
+use Rattle.judge.specs.Laws.{EarliestIs, RubbishIs, SettlingAsksNoQuotes, Laws}
 
 earliest-is : EarliestIs
 earliest-is h = refl
@@ -19,10 +19,15 @@ rubbish-is : RubbishIs
 unfolding rubbish
 rubbish-is h few good = simp (le-ltb 512 (length (h .window)) few, good, joined)
 
+settling-asks-no-quotes : SettlingAsksNoQuotes
+unfolding timeChecks
+settling-asks-no-quotes time earliest k q = refl
+
 pub laws : Laws
 laws = record {
   earliest-is = earliest-is;
   rubbish-is = rubbish-is;
+  settling-asks-no-quotes = settling-asks-no-quotes;
   time-of-determined = λ m. agree (timeOf m);
   bad-end-determined = λ end. agree (badEnd end);
   bad-setup-determined = λ u. agree (badSetup u);

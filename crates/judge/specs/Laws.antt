@@ -28,9 +28,14 @@ abbrev pub RubbishIs : Type 0
 RubbishIs = (h : Whole) → length (h .window) ≤ 512 → badTrades (clockOf (h .stock)) (h .window) ≡ false
     → verdictOf (figuresOf (h .window)) (h .stock) .rubbish ≡ rubbish h
 
+-- what settling is refused by does not go by the quotes
+abbrev pub SettlingAsksNoQuotes : Type 0
+SettlingAsksNoQuotes = (time : ℕ) (earliest : Moment) (k : Kept) (q : Quotes) → timeChecks time earliest (bare k) ≡ timeChecks time earliest (stockOf k q)
+
 pub record Laws : Type 0 where
   pub earliest-is : EarliestIs
   pub rubbish-is : RubbishIs
+  pub settling-asks-no-quotes : SettlingAsksNoQuotes
   -- two results that a promise of src/lib.rt allows agree ("How much a promise says")
   pub time-of-determined : (m : Message) → Determines (λ r. r ≡ timeOf m)
   pub bad-end-determined : (end : ℕ) → Determines (λ r. r ≡ badEnd end)

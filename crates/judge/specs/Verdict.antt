@@ -9,6 +9,7 @@ use Rattle.rules.specs.declared.Figures.{Figures}
 use Rattle.rules.specs.declared.Stock.{Stock}
 use Rattle.judge.specs.declared.Verdict.{Verdict}
 
--- its earliest moment; it is rubbish where it is bad by itself, or that moment is dated before the clock
+-- its earliest moment; it is rubbish where it is bad by itself, or that moment is dated before the clock: with trades that are good, all of
+-- document 01's rubbish (the law rubbish-is)
 abbrev pub verdictOf : Figures → Stock → Verdict
 verdictOf f s = record { earliest = next f s; rubbish = anyOf (badStock s ∷ pastAt (clockOf s) (next f s) ∷ []) }

@@ -68,12 +68,12 @@ pub fn judged(f: Figures, k: Kept, q: Quotes) -> Verdict
     ensures { λ r. ⌜ r ≡ verdictOf f (stockOf k q) ⌝ }
 {
     let earliest = moment::next(f, k);
-    let kept = range::bad_kept(k);
-    let quotes = range::bad_quotes(q);
+    let bad_kept = range::bad_kept(k);
+    let bad_quotes = range::bad_quotes(q);
     let past = moment::is_past(k.course.clock, earliest);
     Verdict {
         earliest,
-        rubbish: kept | quotes | past,
+        rubbish: bad_kept | bad_quotes | past,
     }
 }
 

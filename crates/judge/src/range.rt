@@ -40,7 +40,7 @@ fn bad_times(k: Kept) -> bool
     (last < clock) | (last < start) | (last < entry) | (last < pause)
 }
 
-// All bits that the sides have: where they make no number out of range, no side is.
+// The OR of all sides: where it is at most 999,999,999, so is each side.
 fn bits_of(sides: [u32; 16]) -> u32
     ensures { λ r. ⌜ (r ≤ 999_999_999 → foldl orNotSide false sides ≡ false) ⌝ }
 {
@@ -85,7 +85,7 @@ fn bad_reference(k: Kept) -> bool
     (HIGHEST_PRICE < price) | ((price == 0) & (TRADING <= state) & (state <= LATE))
 }
 
-// Whether the setup, the end or one of these is bad, or the state, or a pause that began too late for its state.
+// Whether a stock is rubbish, its quotes, its window and its next moment left aside.
 pub(crate) fn bad_kept(k: Kept) -> bool
     ensures { λ r. ⌜ r ≡ badStock (bare k) ⌝ }
 {

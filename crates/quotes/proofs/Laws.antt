@@ -1,15 +1,18 @@
 -- The laws of specs/Laws.antt.
 -- Assumes nothing.
-use mathlib.Core.Path.{_≡_, refl, sym}
+use mathlib.Core.Path.{_≡_, refl, _∙_}
 use Rattle.forms.specs.Choice.{if_then_else_, anyOf}
 use Rattle.forms.proofs.Promises.{agree}
-use Rattle.rules.specs.Stock.{Trading, stateOf, enter-limit}
 use Rattle.rules.specs.Quotes.{inForce, kTime, bandsIn, bestOf}
 use Rattle.rules.specs.States.{noQuotes}
 use Rattle.rules.specs.Numbers.{outside}
-use Rattle.quotes.specs.Parts.{basisOf, stockBy}
+use Rattle.rules.specs.declared.Quotes.{Quotes}
+use Rattle.quotes.specs.Parts.{stockOf, basisOf, stockBy}
 use Rattle.quotes.specs.Shown.{shownOf}
-use Rattle.quotes.specs.Laws.{PartsAre, PartsAreAll, BasisIs, ShownByBasis, OutsideByBasis, LimitShowsTheSame, Laws}
+use Rattle.quotes.specs.declared.Basis.{Basis}
+use Rattle.quotes.specs.declared.Kept.{Kept}
+use Rattle.quotes.specs.declared.Shown.{Shown}
+use Rattle.quotes.specs.Laws.{PartsAre, PartsAreAll, BasisIs, ShownIs, ShownByBasis, OutsideByBasis, LimitShowsTheSame, Laws}
 
 parts-are : PartsAre
 parts-are k q = (refl, refl)
@@ -20,9 +23,16 @@ basis-is b q = (refl, refl)
 parts-are-all : PartsAreAll
 parts-are-all s = refl
 
+shown-is : ShownIs
+shown-is s = (refl, refl)
+
 shown-by-basis : ShownByBasis
 unfolding bandsIn bestOf inForce kTime
 shown-by-basis k q = refl
+
+-- the same where the basis was asked for by itself
+pub shown-by : (k : Kept) (q : Quotes) (b : Basis) (shown : Shown) → b ≡ basisOf k → shown ≡ shownOf (stockBy b q) → shown ≡ shownOf (stockOf k q)
+shown-by k q b shown e f = f ∙ rw e (shown-by-basis k q)
 
 outside-by-basis : OutsideByBasis
 unfolding outside bandsIn inForce kTime
@@ -37,6 +47,7 @@ laws = record {
   parts-are = parts-are;
   parts-are-all = parts-are-all;
   basis-is = basis-is;
+  shown-is = shown-is;
   shown-by-basis = shown-by-basis;
   outside-by-basis = outside-by-basis;
   limit-shows-the-same = limit-shows-the-same;

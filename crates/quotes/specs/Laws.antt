@@ -5,6 +5,7 @@ use mathlib.Core.Path.{_≡_}
 use Rattle.forms.specs.Promises.{Determines}
 use Rattle.forms.specs.Words.{_and_}
 use Rattle.rules.specs.Stock.{Trading, stateOf, enter-limit}
+use Rattle.rules.specs.Quotes.{bandsIn, bestOf}
 use Rattle.rules.specs.States.{noQuotes}
 use Rattle.rules.specs.Numbers.{outside}
 use Rattle.rules.specs.declared.Quotes.{Quotes}
@@ -14,16 +15,20 @@ use Rattle.quotes.specs.Shown.{shownOf}
 use Rattle.quotes.specs.declared.Basis.{Basis}
 use Rattle.quotes.specs.declared.Kept.{Kept}
 
--- a stock that is put together has the parts that were given for it, and a stock is all that its parts are
+-- a stock that is put together has the parts that it was made of; a stock that is taken apart and put together is itself
 abbrev pub PartsAre : Type 0
 PartsAre = (k : Kept) (q : Quotes) → keptOf (stockOf k q) ≡ k and stockOf k q .quotes ≡ q
 
 abbrev pub PartsAreAll : Type 0
 PartsAreAll = (s : Stock) → stockOf (keptOf s) (s .quotes) ≡ s
 
--- the same of one that is put together from a basis
+-- a stock that is made from a basis has that basis and those quotes
 abbrev pub BasisIs : Type 0
 BasisIs = (b : Basis) (q : Quotes) → basisOf (keptOf (stockBy b q)) ≡ b and stockBy b q .quotes ≡ q
+
+-- what a stock shows: the rules' bands in force, and their best quotes with their flags
+abbrev pub ShownIs : Type 0
+ShownIs = (s : Stock) → shownOf s .bands ≡ bandsIn s and shownOf s .best ≡ bestOf s
 
 -- what a stock shows goes by its basis and its quotes alone, and so does which price is outside its bands
 abbrev pub ShownByBasis : Type 0
@@ -40,6 +45,7 @@ pub record Laws : Type 0 where
   pub parts-are : PartsAre
   pub parts-are-all : PartsAreAll
   pub basis-is : BasisIs
+  pub shown-is : ShownIs
   pub shown-by-basis : ShownByBasis
   pub outside-by-basis : OutsideByBasis
   pub limit-shows-the-same : LimitShowsTheSame

@@ -14,7 +14,7 @@ stockOf k q = record { setup = k .setup; end = k .end; course = k .course; refer
 abbrev pub keptOf : Stock → Kept
 keptOf s = record { setup = s .setup; end = s .end; course = s .course; reference = s .reference }
 
--- the same as a stock that has no quote
+-- the stock that has these parts and no quotes
 abbrev pub bare : Kept → Stock
 bare k = stockOf k noQuotes
 
@@ -28,15 +28,15 @@ basisOf k = record {
   state = k .course .state;
   clock = k .course .clock;
   entry = k .course .entry;
-  price = k .reference .price;
+  reference = k .reference .price;
 }
 
--- a stock whose bands go by this, with these quotes: what neither asks is 0
+-- the stock with this basis and these quotes; every other number is 0
 abbrev pub stockBy : Basis → Quotes → Stock
 stockBy b q = record {
   setup = record { tier = b .tier; leverage = b .leverage; primary = 0; close = b .close };
   end = b .end;
   course = record { state = b .state; clock = b .clock; early = 0; entry = b .entry; pause = 0 };
-  reference = record { price = b .price; start = 0; hold = 0 };
+  reference = record { price = b .reference; start = 0; hold = 0 };
   quotes = q;
 }

@@ -33,7 +33,7 @@ pub struct Basis {
     pub state: u32,
     pub clock: u32,
     pub entry: u32,
-    pub price: u32,
+    pub reference: u32,
 }
 
 // What a stock shows.
@@ -54,7 +54,7 @@ pub fn basis_of(k: Kept) -> Basis
         state: k.course.state,
         clock: k.course.clock,
         entry: k.course.entry,
-        price: k.reference.price,
+        reference: k.reference.price,
     }
 }
 

@@ -39,7 +39,7 @@ pub(crate) fn bands_in(b: Basis) -> Limits
         let percent = band::percent(b.tier, b.close);
         let time = k_time(b);
         let k = band::factor(b.leverage, time, b.end);
-        return band::bands(b.price, percent, k);
+        return band::bands(b.reference, percent, k);
     }
     Limits { lower: 0, upper: 0 }
 }

@@ -1,12 +1,11 @@
 -- What the look at the quotes comes to, from what the functions that it calls promise.
 -- Assumes nothing.
-use Prim.Native.Nat.{ℕ}
 use mathlib.Core.Bool.{Bool, true, false, not, _&&_, false≢true}
 use mathlib.Core.List.{[], _∷_}
 use mathlib.Core.Path.{_≡_, refl, sym, ap, _∙_}
 use borrow.Author.Tests.{eqb-true, not-true}
 use lib.Dec.{eqb}
-use Rattle.forms.specs.Choice.{if_then_else_, allOf}
+use Rattle.forms.specs.Choice.{allOf}
 use Rattle.forms.proofs.Choice.{if-true, if-false, all-yes, all-empty, all-head, all-tail, all-not-here}
 use Rattle.forms.proofs.Bools.{joined}
 use Rattle.rules.specs.Stock.{Trading, Limit, in-state, refer-to, enter-limit}
@@ -22,7 +21,7 @@ use Rattle.quotes.specs.Shown.{shownOf}
 use Rattle.quotes.specs.declared.Basis.{Basis}
 use Rattle.quotes.specs.declared.Kept.{Kept}
 use Rattle.quotes.specs.declared.Shown.{Shown}
-use Rattle.quotes.proofs.Laws as quotes
+use Rattle.quotes.proofs.Laws.{shown-by}
 use Rattle.states.specs.After.{afterOf}
 use Rattle.states.specs.Turns.{turnedTo, leftTo, leftPrice}
 use Rattle.states.specs.declared.After.{After}
@@ -52,7 +51,7 @@ module _ (k : Kept) (b : Best) (a x : Bool) (ea : a ≡ flagged 3 b) (ex : x ≡
 -- of a stock by its basis
 module _ (k : Kept) (q : Quotes) (b : Basis) (shown : Shown) (eb : b ≡ basisOf k) (es : shown ≡ shownOf (stockBy b q)) where
   shown-is : shown ≡ shownOf (stockOf k q)
-  shown-is = es ∙ rw eb (quotes.laws .shown-by-basis k q)
+  shown-is = shown-by k q b shown eb es
 
   -- as it is, and once its quotes are looked at
   unlooked : (s : Stock) → s ≡ stockOf k q → _≡_ {A = After} (record { kept = k; quotes = q; shown = shown }) (afterOf s)

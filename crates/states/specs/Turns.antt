@@ -41,11 +41,11 @@ quotesAt mark q = if anyOf (eqb mark mark-z ∷ eqb mark mark-c ∷ []) then noQ
 
 -- ------------------------------------------------------------------ a step, before the quotes are looked at
 
--- the stock once they are, where it is to look at them
+-- the stock after a turn: its quotes are looked at where the turn says so
 unfoldable pub turnedTo : Turn → Quotes → Stock
 turnedTo t q = if t .looks then look (stockOf (t .kept) q) else stockOf (t .kept) q
 
--- the same where Limit may end
+-- the same, and Limit may end
 unfoldable pub leftTo : Turn → Figures → Quotes → Stock
 leftTo t f q = if t .looks then quoteRules f (stockOf (t .kept) q) else stockOf (t .kept) q
 

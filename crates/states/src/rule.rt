@@ -54,7 +54,7 @@ fn mean(f: Figures) -> u32
     band::mean(f.sum, f.count) as u32
 }
 
-// Nothing that makes the quotes be looked at.
+// The quotes are not looked at.
 fn still(k: Kept) -> Turn
     ensures { λ r. ⌜ r ≡ record { kept = k; looks = false } ⌝ }
 {

@@ -15,8 +15,8 @@ use rules::Quotes;
 use rules::Reference;
 use rules::TRADING;
 
-// Another course. Each is written out field by field: of one that is copied and then changed, the compiler reads a
-// field back with its neighbour before the change is stored, and the processor waits.
+// Another course. A course that is copied and then changed is read back while the change is still being stored, and
+// the processor waits; so each is written out field by field.
 fn with_course(course: Course, k: Kept) -> Kept
     ensures { λ r. ⌜ r ≡ keptOf (with-course course (bare k)) ⌝ }
 {

@@ -16,7 +16,7 @@ use Rattle.forms.proofs.Checks.{beyond}
 use Rattle.rules.specs.Stock.{Trade, Whole, clockOf, figuresOf, staying}
 use Rattle.rules.specs.Moments.{no-moment, dueBy, windowAfter, come, nextOf, fire}
 use Rattle.rules.specs.Messages.{does, after}
-use Rattle.rules.specs.Numbers.{badTrades, rubbish, ownChecks, timeChecks, tells, settles, zeros, answer, afterTelling, notice, tellAnswer, settleAnswer, readChecks, reads, readAnswer}
+use Rattle.rules.specs.Numbers.{badTrades, rubbish, ownChecks, tells, settles, zeros, answer, afterTelling, notice, tellAnswer, settleAnswer, readChecks, reads, readAnswer}
 use Rattle.rules.specs.declared.Answer.{Answer}
 use Rattle.rules.specs.declared.Message.{Message}
 use Rattle.rules.specs.declared.Message.the-variants.{Trade as T, Quote as Q, Opening as O, Pause as P, Reopening as R, Closing as X}
@@ -26,6 +26,7 @@ use Rattle.rules.proofs.Passed.{told, settled}
 use Rattle.rules.proofs.Sound.{fewer}
 use Rattle.quotes.specs.Parts.{stockOf, keptOf, bare}
 use Rattle.quotes.specs.declared.Kept.{Kept}
+use Rattle.judge.proofs.Laws as judge
 use Rattle.states.specs.After.{afterOf}
 use Rattle.states.specs.declared.After.{After}
 use Rattle.window.specs.Places.{trades, whole, laid, Written}
@@ -201,8 +202,8 @@ module _ (r : Record) (ts ps : List ℕ) (p : Kept) (ep : p ≡ keptOf (r .stock
 
     module _ (time n : ℕ) (e : n ≡ settleNumber time g (bare p)) where
       own-settling : n ≡ settleNumber time g (b .kept .stock)
-      unfolding settleNumber timeChecks
-      own-settling = rw ep at e
+      unfolding settleNumber
+      own-settling = e ∙ rw (judge.laws .settling-asks-no-quotes time (g .earliest) p (b .kept .stock .quotes), ep)
 
       settled-sound : n ≡ 0 → g .sound ≡ true
       unfolding settleNumber

@@ -1,5 +1,5 @@
 -- `book::settle` meets its contract: a walk of its MIR, written by tools/walks/lent.py. `call_number` is called; where it gives a number but 0, the answer is what `zero_notice` makes of it, and no borrow is opened. Else the borrow of the records is opened at the stock's, the record is copied out, `settled_at` is called on the copy with the arrays lent on for good, the next record is stored back where the number is 0, and the borrow is closed.
--- All that it knows of the callees is that they meet their contracts, and it names no field of a record.
+-- All that it knows of the callees is that they meet their contracts, and it names no field of a record, and of the answer only its number.
 -- Assumes nothing.
 use mathlib.Core.Path.{_≡_, refl, sym, ap, subst}
 use Prim.Native.Nat.{ℕ}

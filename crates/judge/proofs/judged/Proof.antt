@@ -1,7 +1,7 @@
 use borrow.Author.Needs.{needs}
 use mathlib.Core.Bool.{Bool, true, false, _||_, or-true}
 use mathlib.Core.List.{[], _∷_}
-use mathlib.Core.Path.{_≡_, refl, _∙_, ap}
+use mathlib.Core.Path.{_≡_, refl, _∙_}
 use Rattle.forms.specs.Choice.{if_then_else_, anyOf}
 use Rattle.forms.proofs.Bools.{joined, or-any}
 use Rattle.rules.specs.Moments.{momentTable, next, pastAt}

@@ -1,7 +1,7 @@
 //! Plays a whole market: 8,192 stocks in 128 books, on one thread and on every core, where each book belongs to one thread.
 //!
 //!     market table HEADER       prints the tables, of 1 to 128 books, under this header
-//!     market row BOOKS THREADS  plays so many books on so many threads, and prints their row of either table
+//!     market row BOOKS THREADS  plays so many books on so many threads, and prints their row of both tables
 
 mod feed;
 mod lane;
@@ -50,7 +50,7 @@ fn print_tables(header: &str) {
 
 /// Prints the table of times on so many threads; gives the rows of the traffic's.
 fn print_times(threads: usize) -> String {
-    println!("\nThreads: {threads}\n");
+    println!("\nThreads: {threads}, and never more than books\n");
     println!("| books | stocks | million messages a second | median, ns a message | 99.9 % | most | ns a call | lent, bytes | traffic, MB | process, MB |");
     println!("|---|---|---|---|---|---|---|---|---|---|");
     let mut traffic = String::new();

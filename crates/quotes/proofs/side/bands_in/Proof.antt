@@ -14,7 +14,7 @@ use Rattle.quotes.proofs.side.bands_in.Tie as tie
 
 module _ (b : Basis) (on : Bool) (e : on ≡ inForce (stockBy b noQuotes)) where
   in-force : (percent time k : ℕ) (bands : Limits) → on ≡ true → percent ≡ percentOf (b .tier) (b .close) → time ≡ kTime (stockBy b noQuotes)
-      → k ≡ factorOf (b .leverage) time (b .end) → bands ≡ bandsOf (b .price) 1 percent k → bands ≡ bandsIn (stockBy b noQuotes)
+      → k ≡ factorOf (b .leverage) time (b .end) → bands ≡ bandsOf (b .reference) 1 percent k → bands ≡ bandsIn (stockBy b noQuotes)
   unfolding bandsIn
   in-force percent time k bands z ep et ek eb = simp (eb, ek, ep, et, ← e, z, if-true)
 

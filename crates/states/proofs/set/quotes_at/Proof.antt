@@ -1,9 +1,9 @@
 use borrow.Author.Needs.{needs}
 use Prim.Native.Nat.{ℕ}
 use mathlib.Core.Path.{_≡_}
-use borrow.Author.Tests.{eq-eqb, ne-eqb}
+use borrow.Author.Tests.{ne-eqb}
 use Rattle.forms.specs.Choice.{if_then_else_, anyOf}
-use Rattle.forms.proofs.Choice.{if-true, if-false}
+use Rattle.forms.proofs.Choice.{if-false}
 use Rattle.rules.specs.States.{noQuotes}
 use Rattle.rules.specs.declared.Quotes.{Quotes}
 use Rattle.states.specs.Turns.{quotesAt}

@@ -15,7 +15,7 @@ use Rattle.quotes.specs.Shown.{shownOf}
 use Rattle.quotes.specs.declared.Basis.{Basis}
 use Rattle.quotes.specs.declared.Kept.{Kept}
 use Rattle.quotes.specs.declared.Shown.{Shown}
-use Rattle.quotes.proofs.Laws as quotes
+use Rattle.quotes.proofs.Laws.{shown-by}
 use Rattle.stock.specs.Steps.{answerBy}
 use Rattle.stock.proofs.answers.answer_of.Statement.{statement}
 use Rattle.stock.proofs.answers.answer_of.Tie as tie
@@ -31,9 +31,7 @@ module _ (n : ℕ) (k : Kept) (q : Quotes) where
   shown : (b : Basis) (s : Shown) (a : Answer) → ((eqb n 1 || eqb n 2) || eqb n 3) ≡ false → b ≡ basisOf k → s ≡ shownOf (stockBy b q)
       → a ≡ answerBy n k s → a ≡ answer n (stockOf k q)
   unfolding answer
-  shown b s a e eb es ea =
-      let is : s ≡ shownOf (stockOf k q) = es ∙ rw eb (quotes.laws .shown-by-basis k q) in
-      simp (tested false e, if-false, ea, is)
+  shown b s a e eb es ea = simp (tested false e, if-false, ea, shown-by k q b s eb es)
 
 pub answer-of-spec : {M : Type 1} → statement M
 answer-of-spec =
