@@ -102,7 +102,10 @@ impl Tally {
     }
 
     fn print_tables(&self) {
-        print_row(" number", &std::array::from_fn::<usize, 15, _>(|number| number));
+        print_row(
+            " number",
+            &std::array::from_fn::<usize, 15, _>(|number| number),
+        );
         for (kind, row) in KINDS.iter().zip(&self.table) {
             print_row(kind, row);
         }
