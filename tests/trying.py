@@ -27,8 +27,10 @@ PAIR = re.compile(r"(?:file: (.+)\n)?old: (.+)\nnew: ?(.*)\n")
 NO_EDIT = "it is not a sentence with lines file, old and new below it"
 UNPROVED = ("`search`: no proof of", "`omega`: the goal does not follow")
 
-# what a check with an edit made ended with and printed; paths in it begin in the crate
-Checked = namedtuple("Checked", "status printed")
+ERROR = re.compile(r"^(.+?):(\d+):\d+: error: (?:in )?`(\S+)`: (.*)$", re.M)
+
+# what a check ended with and what it printed, in which paths begin in the crate, and the line of the file at which its first error stands
+Checked = namedtuple("Checked", "status printed line")
 
 
 # ---------------------------------------------------------------- edits
@@ -112,7 +114,10 @@ class Worker:
 
     def check(self, crate):
         done = subprocess.run(["rt", "dev", crate], cwd=self.folder, env=dict(os.environ, RT_CUT="0"), capture_output=True, text=True)
-        return Checked(done.returncode, (done.stdout + done.stderr).replace(f"{self.folder}/crates/{crate}/", ""))
+        printed = (done.stdout + done.stderr).replace(f"{self.folder}/crates/{crate}/", "")
+        error = ERROR.search(printed)
+        line = (self.folder / "crates" / crate / error[1]).read_text().splitlines()[int(error[2]) - 1] if error else ""
+        return Checked(done.returncode, printed, line)
 
     def attempt(self, edit):
         """What the check says with the edit made, or why it could not be made."""
@@ -166,23 +171,28 @@ def stated(crate):
     return in_words(crate) | {(file, name) for _, file, name in laws(crate)}
 
 
-def fault(edit, printed):
-    """Why a refused edit shows nothing, by what its check printed, in which paths begin in the crate; None where a fact no longer holds.
+def fault(edit, printed, line=""):
+    """Why a refused edit shows nothing, by what its check printed, in which paths begin in the crate, and the line of its first error;
+    None where a fact no longer holds.
 
-    An edit of src/ is to be refused first at a need that has no proof, and not because a proof file no longer fits the code. An edit of
-    specs/ is to be refused at a law or a theorem in words that fails by itself (statements.py says which these are). An edit of proofs/
-    shows nothing.
+    An edit of src/ is to be refused first at a need that has no proof, and not because a proof file no longer fits the code. Where it
+    changes tools/walks too, the walk of the function has been written anew and is to be refused at its last step, which asks for the
+    promise. An edit of specs/ is to be refused at a law or a theorem in words that fails by itself (statements.py says which these are).
+    An edit of proofs/ shows nothing.
     """
-    errors = re.findall(r"^(.+?):\d+:\d+: error: (?:in )?`(\S+)`: (.*)$", printed, re.M)
+    first = ERROR.search(printed)
     if not edit.changes:
         return NO_EDIT
     if edit.touches("proofs"):
         return "it edits a proof"
-    if not errors:
+    if not first:
         return "no error that names a theorem"
     if edit.touches("specs"):
         failed = {theorem for theorem, lacks in refusals(printed).items() if lacks is None}
         return None if failed & stated(edit.crate) else f"no law refuses it, only {', '.join(sorted(name for _, name in failed))}"
-    path, name, why = errors[0]
-    unproved = Path(path).parts[0] == "proofs" and any(words in why for words in UNPROVED)
-    return None if unproved else f"first refused at {path}, {name}: {why[:90]}"
+    path, _, name, why = first.groups()
+    if edit.touches(WALKS):
+        good = name == "walk" and line.strip().startswith("by ! (exits")
+    else:
+        good = Path(path).parts[0] == "proofs" and any(words in why for words in UNPROVED)
+    return None if good else f"first refused at {path}, {name}: {why[:90]}"
