@@ -26,11 +26,19 @@ FORM = re.compile(r"(?!file: )(.+)\n(?:statement: (\S+)\n)?(?:crate: (\w+)\n)?((
 PAIR = re.compile(r"(?:file: (.+)\n)?old: (.+)\nnew: ?(.*)\n")
 NO_EDIT = "it is not a sentence with lines file, old and new below it"
 UNPROVED = ("`search`: no proof of", "`omega`: the goal does not follow")
-
 ERROR = re.compile(r"^(.+?):(\d+):\d+: error: (?:in )?`(\S+)`: (.*)$", re.M)
 
-# what a check ended with and what it printed, in which paths begin in the crate, and the line of the file at which its first error stands
-Checked = namedtuple("Checked", "status printed line")
+
+class Checked(namedtuple("Checked", "status printed line")):
+    """What a check ended with, what it printed, in which paths begin in the crate, and the line of the file at which its first error stands."""
+
+    @property
+    def refused(self):
+        return bool(re.search(r"^logic=not-proved", self.printed, re.M))
+
+    @property
+    def last(self):
+        return self.printed.strip().rpartition("\n")[2]
 
 
 # ---------------------------------------------------------------- edits
@@ -116,8 +124,8 @@ class Worker:
         done = subprocess.run(["rt", "dev", crate], cwd=self.folder, env=dict(os.environ, RT_CUT="0"), capture_output=True, text=True)
         printed = (done.stdout + done.stderr).replace(f"{self.folder}/crates/{crate}/", "")
         error = ERROR.search(printed)
-        line = (self.folder / "crates" / crate / error[1]).read_text().splitlines()[int(error[2]) - 1] if error else ""
-        return Checked(done.returncode, printed, line)
+        at = self.folder / "crates" / crate / error[1] if error else None
+        return Checked(done.returncode, printed, at.read_text().splitlines()[int(error[2]) - 1] if at and at.is_file() else "")
 
     def attempt(self, edit):
         """What the check says with the edit made, or why it could not be made."""
