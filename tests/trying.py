@@ -18,7 +18,8 @@ from concurrent.futures import ThreadPoolExecutor
 from functools import lru_cache
 from pathlib import Path
 
-from statements import ROOT, in_words, laws, refusals
+from floors import ROOT
+from statements import in_words, laws, refusals
 
 WORKERS = int(os.environ.get("WORKERS", "2"))
 WALKS = "tools/walks"
@@ -73,6 +74,12 @@ def wrong_rules():
     return [Edit(path, "rules") for path in sorted(ROOT.glob("tests/wrong-rules/*.edit"))]
 
 
+def kinds(edits):
+    """How many edits change a rule, and how many code alone; those that make the same change count once."""
+    changes = {(edit.crate, *edit.changes): edit.touches("specs") for edit in edits}
+    return {"rules": sum(changes.values()), "code": len(changes) - sum(changes.values())}
+
+
 def edited(edit, folder=ROOT):
     """The text of each file that an edit changes, as it makes it; ValueError with the reason where it does not apply."""
     if not edit.changes:
@@ -85,6 +92,8 @@ def edited(edit, folder=ROOT):
         text = texts.get(path) or path.read_text()
         if text.count(old) != 1:
             raise ValueError(f"{file} has {text.count(old)} times: {old}")
+        if old == new:
+            raise ValueError(f"it does not change {file}")
         texts[path] = text.replace(old, new)
     return texts
 
@@ -150,8 +159,9 @@ class Worker:
                 path.write_text(text)
 
 
-def attempted(edits, logs=None):
-    """Tries edits, some at a time: each with what was said of it, in their order. A folder for logs gets what each check printed."""
+def attempted(edits, logs=None, unfit=applies):
+    """Tries the edits that are not unfit, some at a time: each with what was said of it, in their order. A folder for logs gets what each
+    check printed."""
     with tempfile.TemporaryDirectory() as folder, ThreadPoolExecutor(WORKERS) as pool:
         free = queue.Queue()
         for number in range(min(WORKERS, len(edits))):
@@ -160,7 +170,7 @@ def attempted(edits, logs=None):
         def attempt(edit):
             worker = free.get()
             try:
-                result = worker.attempt(edit)
+                result = unfit(edit) or worker.attempt(edit)
             finally:
                 free.put(worker)
             if logs:

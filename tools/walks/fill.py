@@ -1,5 +1,5 @@
 # fill.py: writes crates/book/proofs/fresh/fill/Proof.antt from fill.tpl, the walk of
-#     fn fill(book: &mut [Record], list: &[u32], end: u32) { let mut i = 0usize; while i < book.len() { book[i] = made_at(list, end, i); i += 1; } }
+#     fn fill(book: &mut [Record], list: &[u32], end: u32) { let mut i = 0usize; while i < book.len() { book[i] = started_at(list, end, i); i += 1; } }
 # The template says what is known before and after; this script adds the steps, with the places of the context worked out.
 import pathlib
 
@@ -24,12 +24,10 @@ def typed(name):
 
 
 # what a turn begins and ends with
-ORDER = ["row", "tokens", "own", I, NUMBER, TEST, RECORD, PLACE, BOOK, LIST, END, "_0", "open", "obs", "auth"] + [f"_{k}+" for k in range(9)]
+ORDER = ["row", "tokens", "own", *[f"_{k}" for k in range(9)], "dies", "open", "obs", "auth"]
 
 
 def item(name):
-    if name.endswith("+"):
-        return f"‵ (fdies {typed(name[:-1])} {local(name[:-1])})"
     if name in FILLED:
         v = FILLED[name]
         return f"‵ (fat fullShare {typed(name)} {local(name)} 0 {f'({v})' if ' ' in v else v})"
@@ -39,6 +37,7 @@ def item(name):
         "row": "‵ (row T.the-row fullShare l b o)",
         "tokens": "tokens",
         "own": "own₁",
+        "dies": "raw (Dies 𝓤 H En)",
         "open": "‵ (fobor κ q (Held T.the-row n b o γ))",
         "obs": "‵ (fobs γ (codedHoleys T.the-row .code (heres T.the-row ys)))",
         "auth": "‵ (fauth γ (codedHoleys T.the-row .code (heres T.the-row ys)))",
@@ -65,7 +64,7 @@ def turn():
     w.use(1, ["twice"], "own₁ ⊛ own₁", "shr-slice-copy 𝓤 H A W (named 0) κ₁ u32 .twice x₁ (s₁ ∷ [])")
     w.split("lent", "own")
     w.front("tokens", "lent")
-    w.use(2, ["pre"], "raw (Step 𝓤 H A at-mem run .pre (to-made i))", "goes-made i fits (four-more i n (length (x₁ .now)) small enough)")
+    w.use(2, ["pre"], "raw (Step 𝓤 H A at-mem run .pre (to-made i))", "goes-made i fits")
     w.lam(f"calls-at ! (fmOf 𝓤 H (W .laws) 𝓣) (Step 𝓤 H A at-mem run) known (to-made i) {w.opds(w.load(LIST), w.load(END), w.load(I))} (λ v.")
     post = "later (some (λ (r : Record). (tokens ⊛ ‵ (T.the-row .own r (v ∷ []))) ⊛ raw (ensured 𝓤 H A g.ended (g.clauses 𝓤 H A at-mem run) (κ₁, tt) (x′ i) tt r)))"
     w.called(post, "r ≡ made i", "said i r", "tokens", "T", RECORD, local(RECORD))

@@ -17,7 +17,7 @@ from ctx import Walk, sub
 HERE = Path(__file__).resolve().parent
 PROOFS = HERE.parents[1] / "crates" / "book" / "proofs"
 
-LAWS = "T.the-row (Is T.the-row) (shows 𝓤 H A T.the-row) (LL.vals T.the-type T′.the-laws) (LL.tells T.the-type T′.the-laws)"
+LAWS = "T.the-row (Is T.the-row) (shows 𝓤 H A T.the-row) record-vals record-tells"
 INSIDE = "(inside i n was c good .record-of)"
 BOOK_LENT = ["obs", "borrow", "token", "tokens"]
 
@@ -85,26 +85,27 @@ def lent_book(values, locals_, typings):
 # ---------------------------------------------------------------- calls
 
 
-def call(w, contract, known, ghost, opds, v, given, ensured):
-    """the call is made; then what it gave and what it ensures are in front"""
+def call(w, contract, known, ghost, opds, v, given, ensured, tokens, is_):
+    """the call is made; what the type tells of its result is known, the result is let go, and what it ensures is in front"""
     w.lam(f"calls-at ! fm ({contract} 𝓤 H A at-mem run) {known} {ghost} {w.opds(*[w.load(o) for o in opds])} (λ {v}.")
-    value, type_, tokens, row = given
-    w.use(1, ["post"], f"later (some (λ ({value} : {type_}). ({tokens} ⊛ ‵ ({row} .own {value} ({v} ∷ []))) ⊛ raw (ensured 𝓤 H A {ensured} tt {value})))", "id⊢ 𝓤 _")
+    value, type_, given_tokens, row = given
+    w.use(1, ["post"], f"later (some (λ ({value} : {type_}). ({given_tokens} ⊛ ‵ ({row} .own {value} ({v} ∷ []))) ⊛ raw (ensured 𝓤 H A {ensured} tt {value})))", "id⊢ 𝓤 _")
     w.add("await ! tt $")
     w.lam(f"pick ! (λ {value}.")
     w.split("result", "ensured")
+    w.split(tokens, "given")
+    w.front("given")
+    seen(w, row, value, v, is_)
+    if tokens == "true":
+        w.drop()
     w.front("ensured")
 
 
-def heard(w, fact, said, e, tokens):
-    """what a callee that changes nothing ensures is known as e; its result is in front"""
+def heard(w, fact, said, e):
+    """what a callee that changes nothing ensures is known as e"""
     w.use(1, ["fact"], f"raw (fact 𝓤 ({fact}))", said)
     w.lam(f"heard ! ({fact}) (λ {e}.")
     w.put(1)
-    w.split(tokens, "given")
-    if tokens == "true":
-        w.drop()
-    w.front("given")
 
 
 def seen(w, row, value, v, known):
@@ -123,20 +124,16 @@ def heard_lasts(w, fact, e):
     for k in (1, 2):
         w.last_list(k, f"{e}{sub(k)}")
     w.drop()
-    w.front("result")
-    w.split("tokens", "given")
-    w.front("given")
 
 
 def step(w, p, goes, d, opds):
     """the step is called on the copy, the arrays lent on for good; what it made is in the local d"""
     w.front("tokens", "own1", "own2")
     w.use(3, ["pre"], "raw (Step 𝓤 H A at-mem run .pre to-step)", goes)
-    call(w, "Step", "known", "to-step", opds, "v", ("r", p["Made"], "tokens", "D.the-row"), "g.ended (g.clauses 𝓤 H A at-mem run) (κ₁, (κ₂, tt)) x′")
+    call(w, "Step", "known", "to-step", opds, "v", ("r", p["Made"], "tokens", "D.the-row"), "g.ended (g.clauses 𝓤 H A at-mem run) (κ₁, (κ₂, tt)) x′", "tokens", "is")
     heard_lasts(w, p["promise"], "e")
-    seen(w, "D.the-row", "r", "v", "is")
-    w.land(d, struct_typed("D", "r", "is"))
-    w.rewrite(d, f"λ (u : Val). ‵ (fat fullShare D′.mir l{sub(d[1:])} 0 u)", "ap only (LL.tells D.the-type D′.the-laws r (v ∷ []) is)")
+    w.land(d, f"({p['made']}-typed 𝓤 H A W r v is)")
+    w.rewrite(d, f"λ (u : Val). ‵ (fat fullShare D′.mir l{sub(d[1:])} 0 u)", f"{p['made']}-val r v is")
     w.note()
 
 
@@ -146,9 +143,8 @@ def guard(w, p, at, number, lengths, flag, refused):
     for k, length in enumerate(lengths):
         w.set(length, f"of-opd ! {w.load(f'_{k + 1}', 1)}", number_typed(f"room{sub(k)} .0"))
     w.use(0, ["pre"], "raw (Number 𝓤 H A at-mem run .pre to-number)", "goes-number")
-    call(w, "Number", "known-number", "to-number", [*lengths, at], "u", ("n", "ℕ", "‵ ftrue", "u32"), "nb.ended (nb.clauses 𝓤 H A at-mem run) tt xn")
-    heard(w, "n ≡ callNumber i was", "said-number n", "c", "true")
-    seen(w, "u32", "n", "u", "n-is")
+    call(w, "Number", "known-number", "to-number", [*lengths, at], "u", ("n", "ℕ", "‵ ftrue", "u32"), "nb.ended (nb.clauses 𝓤 H A at-mem run) tt xn", "true", "n-is")
+    heard(w, "n ≡ callNumber i was", "said-number n", "c")
     w.land(number, "(uint-lawful 𝓤 H A W w32 .typed n _ n-is .0)")
     w.rewrite(number, f"λ (z : Val). ‵ (fat fullShare (tyInt w32) l{sub(number[1:])} 0 z)", "ap only (n-is .0)")
     w.set(flag, f"bin ! {w.load(number)} (lit ! tt) tt", "(tt, tt)")
@@ -157,9 +153,8 @@ def guard(w, p, at, number, lengths, flag, refused):
     arm = w.fork()
     arm.lam("(λ bad.")
     arm.use(0, ["pre"], "raw (No 𝓤 H A at-mem run .pre (to-no n))", "goes-no n (refl, n-is .1)")
-    call(arm, "No", "known-no", "(to-no n)", [number], "v", ("r", p["Answer"], "‵ ftrue", "N.the-row"), "no.ended (no.clauses 𝓤 H A at-mem run) tt (n, tt)")
-    heard(arm, f"r ≡ {p['zeros']} n", "said-no n r", "z", "true")
-    seen(arm, "N.the-row", "r", "v", "is")
+    call(arm, "No", "known-no", "(to-no n)", [number], "v", ("r", p["Answer"], "‵ ftrue", "N.the-row"), "no.ended (no.clauses 𝓤 H A at-mem run) tt (n, tt)", "true", "is")
+    heard(arm, f"r ≡ {p['zeros']} n", "said-no n r", "z")
     arm.land("_0", struct_typed("N", "r", "is"))
     arm.returns(*BOOK_LENT, "own1", "own2", within=True)
     arm.add(f"by ! ({refused})" + ")" * arm.close)
@@ -179,7 +174,7 @@ def place(w, at, offset, pointer):
 
 
 def copy_out(w, pointer, copy, value, known):
-    w.set(copy, f"of-opd ! (load ! (from ! (hop ! (look ! {w.at(pointer)} refl) (stop !))) (look-raw ! {w.at('cell')} refl))", struct_typed("T", value, known))
+    w.set(copy, f"of-opd ! (load ! (from ! (hop ! (look ! {w.at(pointer)} refl) (stop !))) (look-raw ! {w.at('cell')} refl))", f"(record-typed 𝓤 H A W {value} {known})")
 
 
 def lend_arrays(w, times, prices):
@@ -191,14 +186,14 @@ def lend_arrays(w, times, prices):
 
 def give(w, p, to, *source):
     """to = source, which holds the answer"""
-    w.set(to, f"of-opd ! {w.load(*source)}", struct_typed("N", f"(r .{p['answer']})", "(is-answer r v is)"))
+    w.set(to, f"of-opd ! {w.load(*source)}", f"({p['answer']}-typed 𝓤 H A W (r .{p['answer']}) ({p['is_answer']} r v is))")
 
 
 def store_back(w, p, d, pointer, *source):
     """*pointer = d.next; source"""
-    w.add(f"assigns ! (of-opd ! {w.load(d, 1)}) (from ! (hop ! (look ! {w.at(pointer)} refl) (stop !))) (store-raw ! {w.at('cell')} refl {struct_typed('T', '(r .next)', '(is-next r v is)')}) $")
+    w.add(f"assigns ! (of-opd ! {w.load(d, (1, p['made'] + '-at-1'))}) (from ! (hop ! (look ! {w.at(pointer)} refl) (stop !))) (store-raw ! {w.at('cell')} refl (record-typed 𝓤 H A W (r .next) ({p['is_next']} r v is))) $")
     give(w, p, "_0", *source)
-    w.add("owned ! T.the-row (Is T.the-row) (LL.makes T.the-type T′.the-plain 𝓤 H A) (r .next) _ (is-next r v is) $")
+    w.add(f"owned ! T.the-row (Is T.the-row) (LL.makes T.the-type T′.the-plain 𝓤 H A) (r .next) _ ({p['is_next']} r v is) $")
     w.put(0, "own")
 
 
@@ -209,7 +204,10 @@ def leave(w, exits, known, within=False):
 
 def unless_refused(w, p, answer, flag):
     """if answer.NUMBER != 0 { return answer; }: the record is put back as it was"""
+    cell = f"λ (u : Val). ‵ (fat fullShare N′.mir l{sub(answer[1:])} 0 u)"
+    w.rewrite(answer, cell, f"{p['answer']}-number (r .{p['answer']})")
     w.set(flag, f"bin ! {w.load(answer, *p['fields'])} (lit ! tt) tt", "(tt, tt)")
+    w.rewrite(answer, cell, f"sym ({p['answer']}-number (r .{p['answer']}))")
     w.add(f"guarded ! {w.load(flag)}")
     arm = w.fork()
     arm.lam("(λ refused.")
@@ -217,7 +215,7 @@ def unless_refused(w, p, answer, flag):
     arm.add("owned ! T.the-row (Is T.the-row) (LL.makes T.the-type T′.the-plain 𝓤 H A) one _ is-one $")
     arm.put(0, "own")
     arm.front("cell", "own", "others", "open", "obs", "auth")
-    arm.add(f"elem-back ! T.the-row fullShare ys i noRecord (valT one ∷ []) b o {INSIDE} $ closes-slice ! tt T.the-row ys ys refl b o $")
+    arm.add(f"elem-back ! T.the-row fullShare ys i noRecord (record-val one ∷ []) b o {INSIDE} $ closes-slice ! tt T.the-row ys ys refl b o $")
     arm.put(6, "obs", "borrow", "token")
     leave(arm, "exits ys refl", f"(kept-in i n {p['given']} (λ a. a {p['number']}) ({p['unchanged']} {p['v']}) c good (r .next) (zs .1 .0) (zs .1 .1 .0) e refused)", within=True)
     w.o += arm.o
@@ -228,7 +226,7 @@ def unless_refused(w, p, answer, flag):
 
 
 def one(p):
-    """let d = STEP(*r, times, prices, v); *r = d.next; d.ANSWER"""
+    """let d = (*r).STEP(times, prices, v); *r = d.next; d.ANSWER"""
     w = Walk(["toks", "owns"])
     apart(w, reference)
     enter(w, ["vptr b o", "s₁", "s₂", p["val"]], 11, ["(tt, tt)", slice_typed("room₁"), slice_typed("room₂"), p["typed"]])
@@ -236,21 +234,21 @@ def one(p):
     w.lam(f"opens ! tt T.the-row {{h = h}} b o (λ vs. spelt ! {LAWS} fullShare h vs b o $")
     w.put(3, "cell", "own", "open", "obs", "auth")
     w.front("own")
-    seen(w, "T.the-row", "h", "valT h", "was")
+    seen(w, "T.the-row", "h", "record-val h", "was")
     w.note()
     copy_out(w, "_1", "_6", "h", "was")
     lend_arrays(w, ("_7", "_8"), ("_9", "_10"))
     step(w, p, "goes-step was", "_5", ["_6", "_8", "_10", "_4"])
-    store_back(w, p, "_5", "_1", "_5", 0)
+    store_back(w, p, "_5", "_1", "_5", *p["first"])
     w.front("cell", "own", "open", "obs", "auth")
-    w.add("closes ! tt T.the-row (r .next) (valT (r .next) ∷ []) b o $")
+    w.add("closes ! tt T.the-row (r .next) (record-val (r .next) ∷ []) b o $")
     w.put(5, "obs", "borrow", "token")
     leave(w, "exits", "e")
     return w
 
 
 def book(p):
-    """GUARD let d = STEP(book[i], times, prices, i, v); let answer = d.ANSWER; if answer.NUMBER != 0 { return answer; } book[i] = d.next; answer"""
+    """GUARD let d = STEP(book[i], times, prices, stock, v); let answer = d.ANSWER; if answer.NUMBER != 0 { return answer; } book[i] = d.next; answer"""
     w = lent_book([p["val"]], 21, [p["typed"]])
     guard(w, p, "_6", "_7", ["_10", "_11", "_12"], "_13", "refuses n r v is c bad z")
     w.front("obs", "borrow", "token")
@@ -262,20 +260,20 @@ def book(p):
     place(w, "_6", "_10", "_14")
     copy_out(w, "_14", "_15", "one", "is-one")
     lend_arrays(w, ("_16", "_17"), ("_18", "_19"))
-    step(w, p, "goes-step is-one (inside i n was c good)", "_8", ["_15", "_17", "_19", "_6", "_5"])
-    give(w, p, "_9", "_8", 0)
+    step(w, p, "goes-step is-one", "_8", ["_15", "_17", "_19", "_4", "_5"])
+    give(w, p, "_9", "_8", *p["first"])
     unless_refused(w, p, "_9", "_13")
     place(w, "_6", "_11", "_20")
     store_back(w, p, "_8", "_20", "_9")
     w.front("cell", "own", "others", "open", "obs", "auth")
-    w.add(f"elem-put ! T.the-row fullShare ys i (r .next) (valT (r .next) ∷ []) b o {INSIDE} $ closes-slice ! tt T.the-row ys (set ys i (r .next)) (length-set ys i (r .next)) b o $")
+    w.add(f"elem-put ! T.the-row fullShare ys i (r .next) (record-val (r .next) ∷ []) b o {INSIDE} $ closes-slice ! tt T.the-row ys (set ys i (r .next)) (length-set ys i (r .next)) b o $")
     w.put(6, "obs", "borrow", "token")
     leave(w, "exits (set ys i (r .next)) (length-set ys i (r .next))", f"(done-in i n {p['given']} c good (r .next) (zs .1 .0) (zs .1 .1 .0) e)")
     return w
 
 
 def read(p):
-    """GUARD read_at(book[i], times, prices, i)"""
+    """GUARD read_at(book[i], times, prices, stock)"""
     w = lent_book([], 13, [])
     guard(w, p, "_5", "_6", ["_7", "_8", "_9"], "_10", "exits r v is (unread-in i n was r c bad z)")
     w.front("borrow", "token")
@@ -284,7 +282,7 @@ def read(p):
     w.note()
     place(w, "_5", "_7", "_11")
     copy_out(w, "_11", "_12", "one", "is-one")
-    w.add(f"elem-back ! T.the-row q′ ys i noRecord (valT one ∷ []) b o {INSIDE} $ shuts-slice ! tt T.the-row q′ ys b o $")
+    w.add(f"elem-back ! T.the-row q′ ys i noRecord (record-val one ∷ []) b o {INSIDE} $ shuts-slice ! tt T.the-row q′ ys b o $")
     w.put(4, "token")
     for k in (1, 2):
         s = sub(k)
@@ -292,10 +290,9 @@ def read(p):
         w.use(1, ["both"], f"own{s} ⊛ own{s}", f"shr-slice-copy 𝓤 H A W (named 0) κ{s} u32 .twice x{s} (s{s} ∷ [])")
         w.split(f"own{k}", f"lent{k}")
     w.front("tokens", "lent1", "lent2")
-    w.use(3, ["pre"], "raw (Step 𝓤 H A at-mem run .pre to-step)", "goes-step is-one (inside i n was c good)")
-    call(w, "Step", "known", "to-step", ["_12", "_2", "_3", "_5"], "v", ("r", "Answer", "tokens", "N.the-row"), "g.ended (g.clauses 𝓤 H A at-mem run) (κ₁, (κ₂, tt)) x′")
-    heard(w, "r ≡ reading (bytesOf i was)", "said-step r", "e", "tokens")
-    seen(w, "N.the-row", "r", "v", "is")
+    w.use(3, ["pre"], "raw (Step 𝓤 H A at-mem run .pre to-step)", "goes-step is-one")
+    call(w, "Step", "known", "to-step", ["_12", "_2", "_3", "_4"], "v", ("r", "Answer", "tokens", "N.the-row"), "g.ended (g.clauses 𝓤 H A at-mem run) (κ₁, (κ₂, tt)) x′", "tokens", "is")
+    heard(w, "r ≡ reading (bytesOf i was)", "said-step r", "e")
     w.land("_0", struct_typed("N", "r", "is"))
     w.returns(*BOOK_LENT, "own1", "own2")
     w.add("by ! (exits r v is (read-in i n was r c good e))" + ")" * w.close)
@@ -305,26 +302,26 @@ def read(p):
 # ---------------------------------------------------------------- the functions
 
 MESSAGE = {
-    "v": "m", "Value": "Message", "row": "P.the-row", "vals": "(EL.vals P.the-type P′.the-laws)", "tells": "EL.tells P.the-type P′.the-laws",
-    "val": "EL.val P.the-type P′.the-laws m", "makes": "(EL.makes P.the-type P′.the-plain 𝓤 H A)",
-    "typed": "(EL.lawful P.the-type P′.the-laws 𝓤 H A W tt .typed m _ m-is .0)",
+    "v": "m", "Value": "Message", "row": "P.the-row", "vals": "message-vals", "tells": "message-tells",
+    "val": "message-val m", "makes": "(EL.makes P.the-type P′.the-plain 𝓤 H A)",
+    "typed": "(message-typed 𝓤 H A W m m-is)",
 }
 TIME = {
     "v": "t", "Value": "ℕ", "row": "u32", "vals": "(uint-vals w32)", "tells": "uint-tells w32",
     "val": "vint w32 t", "makes": "(uint-makes 𝓤 H A W w32)", "typed": number_typed("t-is .1"),
 }
 TELL = {
-    **MESSAGE, "Made": "Told", "Answer": "Answer", "answer": "answer", "outcome": "telling", "refuse": "zeros", "zeros": "zeros", "Promise": "TellsIn",
-    "fields": [0], "number": ".number", "unchanged": "told-unchanged", "given": "(telling m) zeros was (r .answer)",
+    **MESSAGE, "made": "told", "first": [(0, "told-at-0")], "answer_val": "answer-val", "is_answer": "told-answer", "is_next": "told-next", "Made": "Told", "Answer": "Answer", "answer": "answer", "outcome": "telling", "refuse": "zeros", "zeros": "zeros", "Promise": "TellsIn",
+    "fields": [(0, "answer-at-0")], "number": ".number", "unchanged": "told-unchanged", "given": "(telling m) zeros was (r .answer)",
 }
 SETTLE = {
-    **TIME, "Made": "Settled", "Answer": "Notice", "answer": "notice", "outcome": "settling", "refuse": "zero_notice", "zeros": "noNotice", "Promise": "SettlesIn",
-    "fields": [0, 0], "number": ".answer .number", "unchanged": "settled-unchanged", "given": "(settling t) noNotice was (r .notice)",
+    **TIME, "made": "settled", "first": [(0, "settled-at-0")], "answer_val": "notice-val", "is_answer": "settled-notice", "is_next": "settled-next", "Made": "Settled", "Answer": "Notice", "answer": "notice", "outcome": "settling", "refuse": "zero_notice", "zeros": "noNotice", "Promise": "SettlesIn",
+    "fields": [(0, "notice-at-0"), (0, "answer-at-0")], "number": ".answer .number", "unchanged": "settled-unchanged", "given": "(settling t) noNotice was (r .notice)",
 }
 
 FUNCTIONS = [
-    (one, {**TELL, "fn": "tell_one", "step": "told", "promise": "Tells m (bytes h (x₁ .now) (x₂ .now))"}),
-    (one, {**SETTLE, "fn": "settle_one", "step": "settled", "promise": "Settles t (bytes h (x₁ .now) (x₂ .now))"}),
+    (one, {**TELL, "fn": "tell_one", "step": "tell", "promise": "Tells m (bytes h (x₁ .now) (x₂ .now))"}),
+    (one, {**SETTLE, "fn": "settle_one", "step": "settle", "promise": "Settles t (bytes h (x₁ .now) (x₂ .now))"}),
     (book, {**TELL, "fn": "tell", "step": "told_at", "promise": "ToldAt i m one (x₁ .now) (x₂ .now)"}),
     (book, {**SETTLE, "fn": "settle", "step": "settled_at", "promise": "SettledAt i t one (x₁ .now) (x₂ .now)"}),
     (read, {"fn": "read", "Answer": "Answer", "zeros": "zeros"}),

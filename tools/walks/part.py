@@ -57,7 +57,7 @@ class Params:
     def value(self, k):
         if k in self.slices:
             return f"s{sub(k)}"
-        return f"vint w32 x{sub(k)}" if self.kind[k] == "u32" else f"EL.val P.the-type P′.the-laws x{sub(k)}"
+        return f"vint w32 x{sub(k)}" if self.kind[k] == "u32" else f"message-val x{sub(k)}"
 
     def row(self, k, past):
         if k in self.slices:
@@ -69,7 +69,7 @@ class Params:
             return slice_typed(f"room{sub(k)}")
         if self.kind[k] == "u32":
             return number_typed(f"x{sub(k)}-is .1")
-        return f"(EL.lawful P.the-type P′.the-laws 𝓤 H A W tt .typed x{sub(k)} _ x{sub(k)}-is .0)"
+        return f"(message-typed 𝓤 H A W x{sub(k)} x{sub(k)}-is)"
 
     def joined(self, context):
         """from the slices' rows in the context, all rows, the values' made on the way"""

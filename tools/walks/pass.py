@@ -92,11 +92,10 @@ def entered(ps, locals_):
 def made(w, ps, p, local):
     """the message is made; that it is the letter's is known as c"""
     w.use(0, ["pre"], "raw (Make 𝓤 H A at-mem run .pre to-make)", "goes-make")
-    call(w, "Make", "known-make", "to-make", [f"_{k + 1}" for k in p["made"]], "u", ("m", "Message", "‵ ftrue", "P.the-row"), "mk.ended (mk.clauses 𝓤 H A at-mem run) tt xm")
-    heard(w, p["is_made"], "said-make m", "c", "true")
-    seen(w, "P.the-row", "m", "u", "m-was")
+    call(w, "Make", "known-make", "to-make", [f"_{k + 1}" for k in p["made"]], "u", ("m", "Message", "‵ ftrue", "P.the-row"), "mk.ended (mk.clauses 𝓤 H A at-mem run) tt xm", "true", "m-was")
+    heard(w, p["is_made"], "said-make m", "c")
     w.land(local, "(EL.lawful P.the-type P′.the-laws 𝓤 H A W tt .typed m _ m-was .0)")
-    w.rewrite(local, f"λ (z : Val). ‵ (fat fullShare P′.mir l{sub(local[1:])} 0 z)", "ap only (EL.tells P.the-type P′.the-laws m (u ∷ []) m-was)")
+    w.rewrite(local, f"λ (z : Val). ‵ (fat fullShare P′.mir l{sub(local[1:])} 0 z)", "ap only (message-tells m (u ∷ []) m-was)")
     w.note()
 
 
@@ -137,7 +136,7 @@ def called(w, ps, p, arguments):
     """the call is made; what it ensures is known as e, and its result is in the local that is returned"""
     to, x, message = (f"({word} m)" for word in ("to-step", "x′", "")) if p["letter"] else ("to-step", "x′", "")
     arrays = nest([f"κ{sub(k)}" for k in ps.slices])
-    call(w, "Step", "known", to, arguments, "v", ("r", p["Answer"], "tokens", "N.the-row"), f"g.ended (g.clauses 𝓤 H A at-mem run) {arrays} {x}")
+    call(w, "Step", "known", to, arguments, "v", ("r", p["Answer"], "tokens", "N.the-row"), f"g.ended (g.clauses 𝓤 H A at-mem run) {arrays} {x}", "toks", "is")
     done = f"Done{' m' if p['letter'] else ''}{lasts(ps, 'zs')} r"
     w.use(1, ["ensured"], f"some (λ (zs : Ends). ‵ (lasts g.ended {arrays} {x} zs) ⊛ raw (fact 𝓤 ({done})))", "id⊢ 𝓤 _")
     w.ensures("zs", done, "e")
@@ -146,10 +145,6 @@ def called(w, ps, p, arguments):
     if not ps.muts:
         w.front("lasts")
     w.drop()
-    w.front("result")
-    w.split("toks", "given")
-    w.front("given")
-    seen(w, "N.the-row", "r", "v", "is")
     w.land("_0", struct_typed("N", "r", "is"))
 
 
@@ -161,7 +156,7 @@ def walk(ps, p):
         made(w, ps, p, f"_{first}")
     arrays = lent_on(w, ps, behind)
     values = ["_4", f"_{first}"] if p["letter"] else [f"_{k + 1}" for k in ps.values]
-    given_up(w, ps, "goes-step m (subst (Is P.the-row m) (EL.tells P.the-type P′.the-laws m (u ∷ []) m-was) m-was)" if p["letter"] else "goes-step", "(to-step m)" if p["letter"] else "to-step")
+    given_up(w, ps, "goes-step m (subst (Is P.the-row m) (message-tells m (u ∷ []) m-was) m-was)" if p["letter"] else "goes-step", "(to-step m)" if p["letter"] else "to-step")
     order = sorted([*zip(ps.slices, arrays), *zip([3, 4] if p["letter"] else ps.values, values)])
     called(w, ps, p, [local for _, local in order])
     w.returns("toks", *[f"final{k}" if k in ps.muts else f"own{k}" for k in ps.slices])
@@ -182,7 +177,7 @@ def of_letter(p):
     m, xs = p["letter"], [f"x{sub(k)}" for k in p["made"]]
     return {
         "of_message": "Message → ", "message": " m", "to_step": "(to-step m)",
-        "of_known": "(m : Message) → Is P.the-row m (EL.vals P.the-type P′.the-laws m) → ", "known_message": " m m-is",
+        "of_known": "(m : Message) → Is P.the-row m (message-vals m) → ", "known_message": " m m-is",
         "made_uses": "".join(f"use Rattle.letters.proofs.{m}{end}\n" for end in (" as mk", ".Symbol as mk-def", ".Symbol.{name as #make}", ".Met as mk-thm")),
         "made_contract": "abbrev Make : {M : Type 1} (𝓤 : URA M) (H : Heap 𝓤) (A : Atoms 𝓤) (mem : Memory → SProp 𝓤) (run : Routine → Fun 𝓤) → Contract 𝓤\nMake 𝓤 H A mem run = tripleOf 𝓤 H A mk.signature (mk.spec 𝓤 H A mem run)\n\n",
         "made_call": f"""  -- ---- the call of `{m}`

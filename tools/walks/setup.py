@@ -1,6 +1,6 @@
 # setup.py: writes crates/book/proofs/setup/Proof.antt from setup.tpl, the walk of
 #     pub fn setup(book: &mut [Record], times: &mut [u32], prices: &mut [u32], end: u32, setups: &[u32]) -> Answer {
-#         let answer = judged(book.len(), times.len(), prices.len(), end, setups);
+#         let answer = setup_answer(book.len(), times.len(), prices.len(), end, setups);
 #         if answer.number != 0 { return answer; }
 #         fill(book, setups, end); wipe(times); wipe(prices);
 #         answer
@@ -69,7 +69,7 @@ def judge(w):
     w.lam(f"calls-at ! fm (Judged 𝓤 H A at-mem run) known-judged to-judged {w.opds(*map(w.load, LENGTHS), w.load(END), w.load(LIST))} (λ v.")
     post = "later (some (λ (r : Answer). (T₃ ⊛ ‵ (N.the-row .own r (v ∷ []))) ⊛ raw (ensured 𝓤 H A j.ended (j.clauses 𝓤 H A at-mem run) (κ₃, tt) xj tt r)))"
     w.called(post, "r ≡ zeros number", "said-judged r", "token3", "N", ANSWER, "l₆")
-    w.set(TEST, f"bin ! {w.load(ANSWER, 0)} (lit ! tt) tt", "(tt, tt)")
+    w.set(TEST, f"bin ! {w.load(ANSWER, (0, 'answer-at-0'))} (lit ! tt) tt", "(tt, tt)")
     w.add(f"guarded ! {w.load(TEST)}")
 
 

@@ -21,9 +21,9 @@ use Rattle.rules.specs.declared.Setup.{Setup}
 use Rattle.rules.proofs.Demands.{demands}
 use Rattle.rules.proofs.Numbers.{told-1, settled-1, read-1}
 use Rattle.stock.proofs.Laws.{answer-number, notice-number}
+use Rattle.calls.specs.Setup.{setupsOf}
 use Rattle.book.specs.Lent.{Lent}
 use Rattle.book.specs.Words.{UnusedAre0}
-use Rattle.book.specs.Setup.{setupsOf}
 use Rattle.book.specs.Demands.{Family, Made, refused-setup, told, settled, was-read, calls, Answered, Demand2, Never1, AfterSetup}
 use Rattle.book.proofs.Layouts.{layout-is}
 use Rattle.book.proofs.Chains.{run-length, all-fit, started}

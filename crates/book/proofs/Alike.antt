@@ -22,10 +22,11 @@ use Rattle.rules.specs.declared.Message.{Message}
 use Rattle.rules.specs.declared.Notice.{Notice}
 use Rattle.rules.specs.declared.Setup.{Setup}
 use Rattle.rules.proofs.Demands.{demands}
+use Rattle.calls.specs.Setup.{setupsOf}
 use Rattle.book.specs.Lent.{Lent}
 use Rattle.book.specs.Layout.{layout}
 use Rattle.book.specs.Words.{setupTable}
-use Rattle.book.specs.Setup.{setupsOf, numberOf}
+use Rattle.book.specs.Setup.{numberOf}
 use Rattle.book.specs.Demands.{Family, Made, refused-setup, told, settled, was-read, Chain, calls, Answered, accepted, noticed, SettledTo, Demand2, Demand3}
 use Rattle.book.proofs.Layouts.{length-records}
 use Rattle.book.proofs.SettingUp.{same-number}

@@ -17,7 +17,8 @@ use Rattle.rules.specs.declared.Message.{Message}
 use Rattle.stock.specs.View.{Bytes, Outcome, telling, settling, reading}
 use Rattle.stock.specs.declared.Record.{Record}
 use Rattle.stock.proofs.Laws as stock
-use Rattle.book.specs.Lent.{Lent, lent, noRecord, Given, bytesOf, callNumber, calling, readingIn, Placed}
+use Rattle.calls.specs.Parts.{Placed}
+use Rattle.book.specs.Lent.{Lent, lent, noRecord, Given, bytesOf, callNumber, calling, readingIn}
 
 -- ------------------------------------------------------------------ the test of the number
 

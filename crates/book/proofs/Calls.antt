@@ -17,9 +17,10 @@ use Rattle.rules.specs.declared.Message.{Message}
 use Rattle.rules.specs.declared.Notice.{Notice}
 use Rattle.stock.specs.View.{Bytes, shaped, Outcome, telling, settling}
 use Rattle.stock.proofs.Laws as stock
-use Rattle.book.specs.Lent.{Lent, noRecord, part, bytesOf, withBytes, Given, callNumber, calling, noNotice}
+use Rattle.calls.specs.Parts.{part, noNotice}
+use Rattle.calls.proofs.Parts.{part-put, part-put-other, put-part, length-put}
+use Rattle.book.specs.Lent.{Lent, noRecord, bytesOf, withBytes, Given, callNumber, calling}
 use Rattle.book.specs.Laws.{Has, LetThrough, Touched, ToldRefused, SettledRefused, ToldTouches, SettledTouches}
-use Rattle.book.proofs.Parts.{part-put, part-put-other, put-part, length-put}
 
 -- ------------------------------------------------------------------ a stock that the book has
 

@@ -26,12 +26,14 @@ use Rattle.rules.proofs.Answers.{nothing-shown}
 use Rattle.rules.proofs.Passed.{settled as passed-settling}
 use Rattle.stock.proofs.Calls.{room, fired-few}
 use Rattle.window.specs.Places.{laid}
+use Rattle.calls.specs.Setup.{setupsOf, recordOf, setupNumber}
+use Rattle.calls.proofs.InWords.{setup-number-is}
 use Rattle.book.specs.Lent.{Lent, lent, Given}
 use Rattle.book.specs.Words.{setupTable}
 use Rattle.book.specs.Layout.{empty, stockBytes, layout}
-use Rattle.book.specs.Setup.{setupsOf, recordOf, setupNumber, numberOf, SetsUp}
+use Rattle.book.specs.Setup.{numberOf, SetsUp}
 use Rattle.book.specs.Demands.{ours, Made, refused-setup, told, settled, was-read, Chain, calls, Answered, Demand2}
-use Rattle.book.proofs.SettingUp.{answered, number-0, number-is, started as set-up}
+use Rattle.book.proofs.SettingUp.{answered, number-0, started as set-up}
 use Rattle.book.proofs.Laws.{laws}
 use Rattle.book.proofs.Layouts.{Fits}
 use Rattle.book.proofs.Follows.{tell-follows, settle-follows, read-follows}
@@ -164,7 +166,7 @@ starts end list b₀ b a e z =
 
 pub demand2 : Demand2 ours
 demand2 = record {
-  setup-number = λ end list b b′ a e. subst (λ (x : Answer). Gives (setupTable end list b) (x .number)) (sym (answered end list b b′ a e)) (number-is end list b);
+  setup-number = λ end list b b′ a e. subst (λ (x : Answer). Gives (setupTable end list b) (x .number)) (sym (answered end list b b′ a e)) (setup-number-is (length (b .records)) (length (b .times)) (length (b .prices)) end list);
   setup-zeros = λ end list b b′ a e. nothing-shown _ a (answered end list b b′ a e);
   setup-leaves = laws .set-up-refused;
   from-setup = λ end list b₀ b b′ a cs e z k.

@@ -10,7 +10,8 @@ use Rattle.rules.specs.declared.Message.{Message}
 use Rattle.rules.specs.declared.Notice.{Notice}
 use Rattle.rules.proofs.Demands.{demands as rules}
 use Rattle.stock.specs.View.{telling, settling}
-use Rattle.book.specs.Lent.{calling, noNotice, readingIn}
+use Rattle.calls.specs.Parts.{noNotice}
+use Rattle.book.specs.Lent.{calling, readingIn}
 use Rattle.book.specs.Setup.{setting}
 use Rattle.book.specs.Laws.{AnsweredBy}
 use Rattle.book.specs.Demands.{ours, Demand1, Demands}

@@ -21,7 +21,8 @@ use Rattle.rules.specs.Numbers.{badShape, callChecks, zeros, tells, settles, te
 use Rattle.rules.specs.declared.Message.{Message}
 use Rattle.stock.specs.View.{Bytes, reading, lay, Outcome, telling, settling}
 use Rattle.stock.proofs.Laws as stocks
-use Rattle.book.specs.Lent.{bytesOf, callNumber, calling, noNotice, readingIn}
+use Rattle.calls.specs.Parts.{noNotice}
+use Rattle.book.specs.Lent.{bytesOf, callNumber, calling, readingIn}
 use Rattle.book.specs.Layout.{stockBytes, layout}
 use Rattle.book.proofs.Layouts.{Fits, in-shape, lay-again, read-again, length-records, length-times, length-prices, bytes-of, with-bytes}
 

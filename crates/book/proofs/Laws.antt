@@ -3,29 +3,23 @@
 use Rattle.forms.proofs.Promises.{agree}
 use Rattle.rules.specs.Numbers.{zeros}
 use Rattle.stock.specs.View.{telling, settling}
-use Rattle.book.specs.Lent.{calling, noNotice, readingIn}
+use Rattle.calls.specs.Parts.{noNotice}
+use Rattle.book.specs.Lent.{calling, readingIn}
 use Rattle.book.specs.Setup.{setting}
 use Rattle.book.specs.Laws.{Laws}
-use Rattle.book.proofs.Parts.{part-put, part-put-other, put-part, length-put}
 use Rattle.book.proofs.Calls.{let-through, written, of-others, leaves, told-refused, settled-refused, told-touches, settled-touches}
-use Rattle.book.proofs.Meaning.{lent-is, part-is, one-meaning, no-notice-is, told-by-the-rules, settled-by-the-rules, read-by-the-rules}
+use Rattle.book.proofs.Meaning.{lent-is, one-meaning, told-by-the-rules, settled-by-the-rules, read-by-the-rules}
 use Rattle.book.proofs.Layouts.{layout-is}
 use Rattle.book.proofs.SettingUp as setting-up
 
 pub laws : Laws
 laws = record {
   lent-is = lent-is;
-  part-is = part-is;
-  part-put = λ i new xs f. part-put i new xs (f .places) (f .room);
-  part-put-other = λ i new xs f. part-put-other i new xs (f .places) (f .room);
-  put-part = put-part;
-  length-put = λ i new xs f. length-put i new xs (f .places) (f .room);
   let-through = let-through;
   bytes-written = written;
   bytes-of-others = of-others;
   one-meaning = one-meaning;
   layout-is = layout-is;
-  no-notice-is = no-notice-is;
   told-by-the-rules = told-by-the-rules;
   settled-by-the-rules = settled-by-the-rules;
   read-by-the-rules = read-by-the-rules;
@@ -34,7 +28,6 @@ laws = record {
   settled-refused = settled-refused;
   told-touches = told-touches;
   settled-touches = settled-touches;
-  setups-are = setting-up.setups-are;
   set-up-by-the-rules = setting-up.by-the-rules;
   set-up-one = setting-up.one;
   set-up-starts = setting-up.starts;

@@ -18,10 +18,11 @@ use Rattle.stock.specs.View.{Bytes, bytes, view, lay, shaped}
 use Rattle.stock.proofs.Laws as stocks
 use Rattle.window.specs.Places.{laid}
 use Rattle.window.proofs.Laws as window
+use Rattle.calls.proofs.Parts.{part-is}
 use Rattle.book.specs.Lent.{noRecord, bytesOf, withBytes}
 use Rattle.book.specs.Layout.{empty, stockBytes, layout}
 use Rattle.book.specs.Laws.{LayoutIs}
-use Rattle.book.proofs.Meaning.{part-is, one-meaning}
+use Rattle.book.proofs.Meaning.{one-meaning}
 use Rattle.book.proofs.Rows.{Rows, length-rows, part-row, put-row}
 
 -- ------------------------------------------------------------------ one stock's places

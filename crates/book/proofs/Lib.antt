@@ -1,6 +1,7 @@
-pub mod Parts
 pub mod Called
 pub mod Guarded
+pub mod Locals
+pub mod Values
 pub mod Walking
 pub mod Setups
 pub mod Calls

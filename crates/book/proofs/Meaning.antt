@@ -7,29 +7,28 @@ use mathlib.Core.Path.{_≡_, refl, sym, ap, _∙_, subst}
 use native.Mathlib.Omega.{arith}
 use borrow.Author.Tests.{ltb-true, ltb-false, eq-eqb, ne-eqb}
 use lib.Dec.{ltb}
-use lib.ListN.{length, getD, drop, length-take, List·getD-eq-default}
-use lib.Seq.{getD-take, getD-drop, ext-getD}
+use lib.ListN.{length, getD, List·getD-eq-default}
+use lib.Seq.{ext-getD}
 use Rattle.forms.specs.Words.{Number, Gives}
 use Rattle.forms.proofs.Choice.{if-true, if-false}
 use Rattle.forms.proofs.Decides.{take, skip}
 use Rattle.rules.specs.Stock.{Trade, Whole}
 use Rattle.rules.specs.Numbers.{zeros, afterTelling, afterSettling, tellAnswer, settleAnswer, readAnswer}
 use Rattle.rules.specs.declared.Message.{Message}
-use Rattle.rules.proofs.Answers.{Called, wrong-shape, no-stock, there, called, nothing-shown}
+use Rattle.rules.proofs.Answers.{Called, wrong-shape, no-stock, there, called}
 use Rattle.stock.specs.View.{Bytes, view, shaped, Outcome, telling, settling}
 use Rattle.stock.proofs.Laws as stock
-use Rattle.book.specs.Lent.{Lent, part, bytesOf, Given, callNumber, calling, noNotice, readingIn}
+use Rattle.calls.specs.Parts.{part, noNotice}
+use Rattle.calls.proofs.Parts.{part-is}
+use Rattle.book.specs.Lent.{Lent, bytesOf, Given, callNumber, calling, readingIn}
 use Rattle.book.specs.Words.{recordAt, noTrade, Means, InShape, callTable}
-use Rattle.book.specs.Laws.{LentIs, PartIs, OneMeaning, Touched, AnsweredBy, NoNoticeIs, ToldByTheRules, SettledByTheRules, ReadByTheRules}
+use Rattle.book.specs.Laws.{LentIs, OneMeaning, Touched, AnsweredBy, ToldByTheRules, SettledByTheRules, ReadByTheRules}
 use Rattle.book.proofs.Calls.{let-through, bytes-shaped, told-touches, settled-touches}
 
 -- ------------------------------------------------------------------ the places of a stock
 
 pub lent-is : LentIs
 lent-is records times prices = (refl, (refl, refl))
-
-pub part-is : PartIs
-part-is i xs = (simp length-take (omega arith), λ j h. getD-take 512 (drop (512 * i) xs) j 0 h ∙ getD-drop (512 * i) xs j 0)
 
 -- behind them nothing is read
 past-part : (i : ℕ) (xs : List ℕ) (j : ℕ) → 512 ≤ j → getD (part i xs) j 0 ≡ 0
@@ -130,9 +129,6 @@ let-in i b s l = go (called (length (b .records)) (length (b .times)) (length (b
 
 in-parts : (i : ℕ) (b : Lent) → callNumber i b ≡ 0 → shaped (bytesOf i b) ≡ true
 in-parts i b e = bytes-shaped i b (let-through i b e)
-
-pub no-notice-is : NoNoticeIs
-no-notice-is number = (refl, (nothing-shown number (zeros number) refl, (refl, refl)))
 
 -- ------------------------------------------------------------------ telling and settling
 

@@ -8,7 +8,7 @@ use native.Mathlib.Omega.{arith}
 use lib.ListN.{length, getD, set, take, drop, length-append}
 use lib.Seq.{take-at, drop-at, drop-drop, take-add}
 use Rattle.rules.specs.Machine.{Every}
-use Rattle.book.specs.Lent.{part, put}
+use Rattle.calls.specs.Parts.{part, put}
 
 -- every row has 512 places
 abbrev pub Rows : List (List ℕ) → Type 0

@@ -19,9 +19,10 @@ use Rattle.rules.specs.declared.Message.the-variants.{Quote}
 use Rattle.window.specs.Places.{laid}
 use Rattle.rules.specs.declared.Answer.{Answer}
 use Rattle.rules.specs.declared.Notice.{Notice}
+use Rattle.calls.specs.Setup.{setupsOf, setupNumber}
 use Rattle.book.specs.Lent.{Lent, lent, noRecord}
 use Rattle.book.specs.Layout.{layout}
-use Rattle.book.specs.Setup.{setupsOf, setupNumber, numberOf, setting}
+use Rattle.book.specs.Setup.{numberOf, setting}
 use Rattle.book.specs.Demands.{Made, told, calls, Demand1, Demand2, silent, refusing, fixed, leaving, acknowledging}
 use Rattle.book.proofs.SettingUp.{same-number}
 

@@ -21,10 +21,12 @@ use Rattle.rules.specs.declared.Message.{Message}
 use Rattle.rules.specs.declared.Notice.{Notice}
 use Rattle.rules.specs.declared.Setup.{Setup}
 use Rattle.stock.specs.View.{Bytes, telling, settling, Tells, Settles}
-use Rattle.book.specs.Lent.{Lent, Given, calling, noNotice, TellsIn, SettlesIn, readingIn}
+use Rattle.calls.specs.Parts.{noNotice}
+use Rattle.calls.specs.Setup.{setupsOf}
+use Rattle.book.specs.Lent.{Lent, Given, calling, TellsIn, SettlesIn, readingIn}
 use Rattle.book.specs.Words.{Means, UnusedAre0, callTable, setupTable}
 use Rattle.book.specs.Layout.{stockBytes, layout}
-use Rattle.book.specs.Setup.{setupsOf, setting, SetsUp}
+use Rattle.book.specs.Setup.{setting, SetsUp}
 
 -- ------------------------------------------------------------------ calls on a book
 

@@ -5,46 +5,31 @@ use mathlib.Core.Bool.{true}
 use mathlib.Core.List.{List}
 use mathlib.Core.Logic.{_↔_}
 use mathlib.Core.Path.{_≡_}
-use lib.ListN.{length, getD}
+use lib.ListN.{length}
 use Rattle.forms.specs.Promises.{Determines}
 use Rattle.forms.specs.Words.{_and_}
 use Rattle.rules.specs.Stock.{Whole}
 use Rattle.rules.specs.Machine.{Every}
-use Rattle.rules.specs.Book.{noSetup}
 use Rattle.rules.specs.Numbers.{zeros, fresh, afterTelling, afterSettling, tellAnswer, settleAnswer, readAnswer, setupAnswer}
-use Rattle.rules.specs.Words.{ShowsNothing}
 use Rattle.rules.specs.declared.Answer.{Answer}
 use Rattle.rules.specs.declared.Message.{Message}
 use Rattle.rules.specs.declared.Notice.{Notice}
 use Rattle.stock.specs.View.{Bytes, view, shaped, Outcome, telling, settling}
 use Rattle.stock.specs.declared.Record.{Record}
-use Rattle.book.specs.Lent.{Lent, lent, part, put, bytesOf, withBytes, Given, callNumber, calling, noNotice, TellsIn, SettlesIn, readingIn}
-use Rattle.book.specs.Words.{Means, UnusedAre0, LaidOut, setupIn, InShape}
-use Rattle.book.specs.Setup.{setupsOf, SetsUp}
+use Rattle.calls.specs.Parts.{noNotice}
+use Rattle.calls.specs.Setup.{setupsOf}
+use Rattle.calls.specs.Words.{setupIn}
+use Rattle.book.specs.Lent.{Lent, lent, bytesOf, withBytes, Given, callNumber, calling, TellsIn, SettlesIn, readingIn}
+use Rattle.book.specs.Words.{Means, UnusedAre0, LaidOut, InShape}
+use Rattle.book.specs.Setup.{SetsUp}
 use Rattle.book.specs.Layout.{layout}
 
--- ------------------------------------------------------------------ the parts of a book, and of an array
+-- ------------------------------------------------------------------ the parts of a book
 
 -- a book put together: each part is what was given for it
 abbrev pub LentIs : Type 0
 LentIs = (records : List Record) (times prices : List ℕ)
     → let b = lent records times prices in b .records ≡ records and b .times ≡ times and b .prices ≡ prices
-
--- stock i has at most 512 places, and place j is entry 512 i + j
-abbrev pub PartIs : Type 0
-PartIs = (i : ℕ) (xs : List ℕ) → (length (part i xs) ≤ 512) × ((j : ℕ) → j < 512 → getD (part i xs) j 0 ≡ getD xs (512 * i + j) 0)
-
--- a part of 512 places that is put where there is room for it
-pub record Fits (i : ℕ) (new xs : List ℕ) : Type 0 where
-  pub places : length new ≡ 512
-  pub room : 512 * i + 512 ≤ length xs
-
--- it is read there again, and every other stock's part is as it was
-abbrev pub PartPut : Type 0
-PartPut = (i : ℕ) (new xs : List ℕ) → Fits i new xs → part i (put i new xs) ≡ new
-
-abbrev pub PartPutOther : Type 0
-PartPutOther = (i : ℕ) (new xs : List ℕ) → Fits i new xs → (j : ℕ) → ¬ (j ≡ i) → part j (put i new xs) ≡ part j xs
 
 -- ------------------------------------------------------------------ the bytes of a stock
 
@@ -80,11 +65,6 @@ pub record AnsweredBy {A : Type 0} (i : ℕ) (b : Lent) (r own : A) (beside : �
   pub there : InShape b → i < length (b .records) → r ≡ own
   pub no-shape : ¬ InShape b → r ≡ beside 1
   pub no-stock : InShape b → length (b .records) ≤ i → r ≡ beside 3
-
--- a number with zeros beside it, and no moment
-abbrev pub NoNoticeIs : Type 0
-NoNoticeIs = (number : ℕ) → let n = noNotice number in
-    n .answer .number ≡ number and ShowsNothing (n .answer) and n .moment .mark ≡ 0 and n .moment .time ≡ 0
 
 -- the answer is the rules' of what the bytes mean, and then they mean what the rules leave
 abbrev pub ToldByTheRules : Type 0
@@ -128,11 +108,6 @@ SettledTouches = (i time : ℕ) (b : Lent) (r : Notice) (b′ : Lent) → Settle
 
 -- ------------------------------------------------------------------ setup
 
--- the list has a setup for each four of its numbers, in their order
-abbrev pub SetupsAre : Type 0
-SetupsAre = (list : List ℕ) (stocks : ℕ) → length list ≡ 4 * stocks
-    → (length (setupsOf list) ≡ stocks) × ((i : ℕ) → i < stocks → getD (setupsOf list) i noSetup ≡ setupIn list i)
-
 -- of a list that has four numbers for each of some stocks: the rules' answer
 abbrev pub SetUpByTheRules : Type 0
 SetUpByTheRules = (end : ℕ) (list : List ℕ) (b b′ : Lent) (r : Answer) → SetsUp end list b r b′ → (stocks : ℕ) → length list ≡ 4 * stocks
@@ -157,17 +132,11 @@ SetUpRefused = (end : ℕ) (list : List ℕ) (b b′ : Lent) (r : Answer) → Se
 
 pub record Laws : Type 1 where
   pub lent-is : LentIs
-  pub part-is : PartIs
-  pub part-put : PartPut
-  pub part-put-other : PartPutOther
-  pub put-part : (i : ℕ) (xs : List ℕ) → put i (part i xs) xs ≡ xs
-  pub length-put : (i : ℕ) (new xs : List ℕ) → Fits i new xs → length (put i new xs) ≡ length xs
   pub let-through : LetThrough
   pub bytes-written : BytesWritten
   pub bytes-of-others : BytesOfOthers
   pub one-meaning : OneMeaning
   pub layout-is : LayoutIs
-  pub no-notice-is : NoNoticeIs
   pub told-by-the-rules : ToldByTheRules
   pub settled-by-the-rules : SettledByTheRules
   pub read-by-the-rules : ReadByTheRules
@@ -176,7 +145,6 @@ pub record Laws : Type 1 where
   pub settled-refused : SettledRefused
   pub told-touches : ToldTouches
   pub settled-touches : SettledTouches
-  pub setups-are : SetupsAre
   pub set-up-by-the-rules : SetUpByTheRules
   pub set-up-one : SetUpOne
   pub set-up-starts : SetUpStarts

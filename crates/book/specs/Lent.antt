@@ -1,13 +1,12 @@
 -- A book in memory, and what a call on it promises (document 01, "What the book holds", "Numbers given back").
 -- Assumes nothing.
-use Prim.Native.Nat.{ℕ, _+_, _*_}
-use mathlib.Core.List.{List, _++_}
+use Prim.Native.Nat.{ℕ}
+use mathlib.Core.List.{List}
 use mathlib.Core.Path.{_≡_}
 use lib.Dec.{eqb}
-use lib.ListN.{length, getD, set, take, drop}
+use lib.ListN.{length, getD, set}
 use Rattle.forms.specs.Choice.{if_then_else_}
 use Rattle.forms.specs.Checks.{first}
-use Rattle.rules.specs.Moments.{no-moment}
 use Rattle.rules.specs.Numbers.{callChecks, zeros}
 use Rattle.rules.specs.Book.{blank}
 use Rattle.rules.specs.declared.Answer.{Answer}
@@ -15,8 +14,7 @@ use Rattle.rules.specs.declared.Message.{Message}
 use Rattle.rules.specs.declared.Notice.{Notice}
 use Rattle.stock.specs.View.{Bytes, bytes, Outcome, telling, settling, reading}
 use Rattle.stock.specs.declared.Record.{Record}
-use Rattle.stock.specs.declared.Told.{Told}
-use Rattle.stock.specs.declared.Settled.{Settled}
+use Rattle.calls.specs.Parts.{part, put, noNotice}
 
 -- ------------------------------------------------------------------ the bytes of a book
 
@@ -32,14 +30,6 @@ lent records times prices = record { records = records; times = times; prices = 
 -- what is said to stand past the end of the records; no call that is done reads it
 abbrev pub noRecord : Record
 noRecord = record { stock = blank 0 .stock; count = 0 }
-
--- the part of an array that stock i owns: 512 places from 512 times its number
-abbrev pub part : ℕ → List ℕ → List ℕ
-part i xs = take 512 (drop (512 * i) xs)
-
--- the array with another part in its place
-abbrev pub put : ℕ → List ℕ → List ℕ → List ℕ
-put i new xs = take (512 * i) xs ++ (new ++ drop (512 * i + 512) xs)
 
 -- the bytes of stock i
 abbrev pub bytesOf : ℕ → Lent → Bytes
@@ -70,10 +60,6 @@ calling i step beside b =
 abbrev pub TellsIn : ℕ → Message → Lent → Answer → Lent → Type 0
 TellsIn i m b r b′ = _≡_ {A = Given Answer} (record { answer = r; book = b′ }) (calling i (telling m) zeros b)
 
--- a notice of zeros beside a number
-abbrev pub noNotice : ℕ → Notice
-noNotice number = record { answer = zeros number; moment = no-moment }
-
 -- the promise of settling stock i to a time
 abbrev pub SettlesIn : ℕ → ℕ → Lent → Notice → Lent → Type 0
 SettlesIn i time b r b′ = _≡_ {A = Given Notice} (record { answer = r; book = b′ }) (calling i (settling time) noNotice b)
@@ -81,20 +67,3 @@ SettlesIn i time b r b′ = _≡_ {A = Given Notice} (record { answer = r; book 
 -- what reading stock i gives: what its bytes give, or a number with zeros beside it
 unfoldable pub readingIn : ℕ → Lent → Answer
 readingIn i b = if eqb (callNumber i b) 0 then reading (bytesOf i b) else zeros (callNumber i b)
-
--- ------------------------------------------------------------------ a stock's step, its record by value beside the whole arrays
-
--- the answer and the next record are the outcome's, and of each array the part of stock i alone is another
-pub record Placed {A : Type 0} (i : ℕ) (o : Outcome A) (ts ps : List ℕ) (a : A) (kept : Record) (ts′ ps′ : List ℕ) : Type 0 where
-  pub answer : a ≡ o .answer
-  pub next : kept ≡ o .bytes .kept
-  pub times : ts′ ≡ put i (o .bytes .times) ts
-  pub prices : ps′ ≡ put i (o .bytes .prices) ps
-
--- the promise of telling a record, by its number among the parts
-abbrev pub ToldAt : ℕ → Message → Record → List ℕ → List ℕ → Told → List ℕ → List ℕ → Type 0
-ToldAt i m r ts ps x ts′ ps′ = Placed i (telling m (bytes r (part i ts) (part i ps))) ts ps (x .answer) (x .next) ts′ ps′
-
--- the promise of settling it
-abbrev pub SettledAt : ℕ → ℕ → Record → List ℕ → List ℕ → Settled → List ℕ → List ℕ → Type 0
-SettledAt i time r ts ps x ts′ ps′ = Placed i (settling time (bytes r (part i ts) (part i ps))) ts ps (x .notice) (x .next) ts′ ps′

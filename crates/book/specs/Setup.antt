@@ -1,44 +1,19 @@
 -- The setup of a whole book, and what it promises (document 01, "What the book holds", "Numbers given back").
 -- Assumes nothing.
-use Prim.Native.Nat.{ℕ, _*_}
-use mathlib.Core.Bool.{not}
-use mathlib.Core.List.{List, [], _∷_, map}
+use Prim.Native.Nat.{ℕ}
+use mathlib.Core.List.{List, map}
 use mathlib.Core.Path.{_≡_}
 use lib.Dec.{eqb}
 use lib.ListN.{length, replicate}
 use Rattle.forms.specs.Choice.{if_then_else_}
-use Rattle.forms.specs.Checks.{first}
-use Rattle.forms.specs.Checks.Check.{_when_}
-use Rattle.rules.specs.Numbers.{zeros, fresh, setupChecks}
+use Rattle.rules.specs.Numbers.{zeros}
 use Rattle.rules.specs.declared.Answer.{Answer}
-use Rattle.rules.specs.declared.Setup.{Setup}
-use Rattle.stock.specs.declared.Record.{Record}
+use Rattle.calls.specs.Setup.{setupsOf, recordOf, setupNumber}
 use Rattle.book.specs.Lent.{Lent, lent, Given}
-
--- ------------------------------------------------------------------ the list of setups
-
--- a setup for each four numbers: tier, leverage, primary, close
-unfoldable pub setupsOf : List ℕ → List Setup
-setupsOf (tier ∷ leverage ∷ primary ∷ close ∷ rest) =
-    record { tier = tier; leverage = leverage; primary = primary; close = close } ∷ setupsOf rest
-setupsOf [] = []
-setupsOf (_ ∷ []) = []
-setupsOf (_ ∷ _ ∷ []) = []
-setupsOf (_ ∷ _ ∷ _ ∷ []) = []
-
--- the record of a stock that has been set up and holds no trade
-abbrev pub recordOf : ℕ → Setup → Record
-recordOf end u = record { stock = fresh end u .stock; count = 0 }
 
 -- ------------------------------------------------------------------ what a setup gives and leaves
 
--- the number: 1 where numbers are left over, else what the rules give
-unfoldable pub setupNumber : ℕ → ℕ → ℕ → ℕ → List ℕ → ℕ
-setupNumber stocks times prices end list = first (
-    1 when not (eqb (length list) (4 * length (setupsOf list))) ∷
-    setupChecks stocks times prices end (setupsOf list))
-
--- of a book
+-- the number that a setup of this book is answered
 abbrev pub numberOf : ℕ → List ℕ → Lent → ℕ
 numberOf end list b = setupNumber (length (b .records)) (length (b .times)) (length (b .prices)) end list
 

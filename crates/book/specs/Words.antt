@@ -3,16 +3,15 @@
 -- rules' Demands.antt says how to read them.
 -- Assumes nothing.
 use Prim.Native.Nat.{ℕ, _+_, _*_, _≤_, _<_}
-use mathlib.Core.List.{List, [], _∷_}
+use mathlib.Core.List.{List}
 use mathlib.Core.Path.{_≡_}
 use lib.ListN.{length, getD}
-use Rattle.forms.specs.Words.{_or_, _and_, Number}
-use Rattle.forms.specs.Words.Number.{_for_}
+use Rattle.forms.specs.Words.{_and_, Number}
 use Rattle.rules.specs.Stock.{Trade, Whole}
 use Rattle.rules.specs.Book.{blank}
-use Rattle.rules.specs.Words.{IsShape, IsEnd, IsSetup, bookRefusals}
-use Rattle.rules.specs.declared.Setup.{Setup}
+use Rattle.rules.specs.Words.{IsShape, bookRefusals}
 use Rattle.stock.specs.declared.Record.{Record}
+use Rattle.calls.specs.Words.{setupRefusals}
 use Rattle.book.specs.Lent.{Lent, noRecord}
 
 -- ------------------------------------------------------------------ what the bytes of a stock mean
@@ -49,17 +48,6 @@ pub record LaidOut (hs : List Whole) (b : Lent) : Type 0 where
   pub each : (i : ℕ) → i < length hs → Means i b (getD hs i (blank 0))
   pub unused : (i : ℕ) → i < length hs → UnusedAre0 i b
 
--- ------------------------------------------------------------------ the list of a setup
-
--- the setup of stock i: tier, leverage, primary and close, the entries from 4 i on in this order
-abbrev pub setupIn : List ℕ → ℕ → Setup
-setupIn list i = record {
-  tier = getD list (4 * i) 0;
-  leverage = getD list (4 * i + 1) 0;
-  primary = getD list (4 * i + 2) 0;
-  close = getD list (4 * i + 3) 0;
-}
-
 -- ------------------------------------------------------------------ the number of each call
 
 -- the shape of a book's bytes is right
@@ -72,7 +60,4 @@ callTable i b own = bookRefusals (length (b .records)) (length (b .times)) (leng
 
 -- a setup: 1 for the shape and for a list that has not four numbers for each stock; 2 for E or a stock's setup out of range
 abbrev pub setupTable : ℕ → List ℕ → Lent → List Number
-setupTable end list b =
-    1 for (¬ InShape b or ¬ (length list ≡ 4 * length (b .records))) ∷
-    2 for (¬ IsEnd end or ((i : ℕ) × (i < length (b .records)) × ¬ IsSetup (setupIn list i))) ∷
-    []
+setupTable end list b = setupRefusals (length (b .records)) (length (b .times)) (length (b .prices)) end list

@@ -11,13 +11,12 @@ use rules::Notice;
 use stock::Record;
 
 mod fresh;
-mod step;
 
 // Tells the stock of a lent record a message.
 pub fn tell_one(r: &mut Record, times: &mut [u32], prices: &mut [u32], message: Message) -> Answer
     ensures { λ x. ⌜ Tells message (bytes (now (r .entry)) (now (times .entry)) (now (prices .entry))) (record { answer = x; next = now (r .exit) }) (now (times .exit)) (now (prices .exit)) ⌝ }
 {
-    let d = step::told(*r, times, prices, message);
+    let d = (*r).tell(times, prices, message);
     *r = d.next;
     d.answer
 }
@@ -26,7 +25,7 @@ pub fn tell_one(r: &mut Record, times: &mut [u32], prices: &mut [u32], message: 
 pub fn settle_one(r: &mut Record, times: &mut [u32], prices: &mut [u32], time: u32) -> Notice
     ensures { λ x. ⌜ Settles time (bytes (now (r .entry)) (now (times .entry)) (now (prices .entry))) (record { notice = x; next = now (r .exit) }) (now (times .exit)) (now (prices .exit)) ⌝ }
 {
-    let d = step::settled(*r, times, prices, time);
+    let d = (*r).settle(times, prices, time);
     *r = d.next;
     d.notice
 }
@@ -42,13 +41,13 @@ pub fn setup(
 ) -> Answer
     ensures { λ r. ⌜ SetsUp end (now (setups .entry)) (lent (now (book .entry)) (now (times .entry)) (now (prices .entry))) r (lent (now (book .exit)) (now (times .exit)) (now (prices .exit))) ⌝ }
 {
-    let answer = fresh::judged(book.len(), times.len(), prices.len(), end, setups);
+    let answer = calls::setup_answer(book.len(), times.len(), prices.len(), end, setups);
     if answer.number != 0 {
         return answer;
     }
     fresh::fill(book, setups, end);
-    fresh::wipe(times);
-    fresh::wipe(prices);
+    calls::wipe(times);
+    calls::wipe(prices);
     answer
 }
 
@@ -63,11 +62,11 @@ pub fn tell(
     ensures { λ x. ⌜ TellsIn stock message (lent (now (book .entry)) (now (times .entry)) (now (prices .entry))) x (lent (now (book .exit)) (now (times .exit)) (now (prices .exit))) ⌝ }
 {
     let i = stock as usize;
-    let number = step::call_number(book.len(), times.len(), prices.len(), i);
+    let number = calls::call_number(book.len(), times.len(), prices.len(), i);
     if number != 0 {
-        return step::zeros(number);
+        return calls::zeros(number);
     }
-    let d = step::told_at(book[i], times, prices, i, message);
+    let d = calls::told_at(book[i], times, prices, stock, message);
     let answer = d.answer;
     if answer.number != 0 {
         return answer;
@@ -87,11 +86,11 @@ pub fn settle(
     ensures { λ x. ⌜ SettlesIn stock time (lent (now (book .entry)) (now (times .entry)) (now (prices .entry))) x (lent (now (book .exit)) (now (times .exit)) (now (prices .exit))) ⌝ }
 {
     let i = stock as usize;
-    let number = step::call_number(book.len(), times.len(), prices.len(), i);
+    let number = calls::call_number(book.len(), times.len(), prices.len(), i);
     if number != 0 {
-        return step::zero_notice(number);
+        return calls::zero_notice(number);
     }
-    let d = step::settled_at(book[i], times, prices, i, time);
+    let d = calls::settled_at(book[i], times, prices, stock, time);
     let notice = d.notice;
     if notice.answer.number != 0 {
         return notice;
@@ -105,9 +104,9 @@ pub fn read(book: &[Record], times: &[u32], prices: &[u32], stock: u32) -> Answe
     ensures { λ x. ⌜ x ≡ readingIn stock (lent (now (book .entry)) (now (times .entry)) (now (prices .entry))) ⌝ }
 {
     let i = stock as usize;
-    let number = step::call_number(book.len(), times.len(), prices.len(), i);
+    let number = calls::call_number(book.len(), times.len(), prices.len(), i);
     if number != 0 {
-        return step::zeros(number);
+        return calls::zeros(number);
     }
-    step::read_at(book[i], times, prices, i)
+    calls::read_at(book[i], times, prices, stock)
 }

@@ -6,7 +6,6 @@ use lib.ListN.{length}
 use Rattle.forms.proofs.Bools.{joined}
 use Rattle.forms.proofs.Promises.{agree}
 use Rattle.forms.specs.Checks.{first}
-use Rattle.rules.specs.Messages.{timeOf}
 use Rattle.rules.specs.Numbers.{badEnd, badSetup, rubbish, messageChecks, timeChecks}
 use Rattle.quotes.specs.Parts.{stockOf, bare}
 use Rattle.judge.specs.Verdict.{verdictOf}
@@ -28,7 +27,6 @@ laws = record {
   earliest-is = earliest-is;
   rubbish-is = rubbish-is;
   settling-asks-no-quotes = settling-asks-no-quotes;
-  time-of-determined = λ m. agree (timeOf m);
   bad-end-determined = λ end. agree (badEnd end);
   bad-setup-determined = λ u. agree (badSetup u);
   judged-determined = λ f k q. agree (verdictOf f (stockOf k q));

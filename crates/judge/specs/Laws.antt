@@ -8,7 +8,6 @@ use Rattle.forms.specs.Checks.{first}
 use Rattle.forms.specs.Promises.{Determines}
 use Rattle.rules.specs.Stock.{Whole, clockOf, figuresOf}
 use Rattle.rules.specs.Moments.{nextOf}
-use Rattle.rules.specs.Messages.{timeOf}
 use Rattle.rules.specs.Numbers.{badEnd, badSetup, badTrades, rubbish, messageChecks, timeChecks}
 use Rattle.quotes.specs.Parts.{stockOf, bare}
 use Rattle.quotes.specs.declared.Kept.{Kept}
@@ -37,7 +36,6 @@ pub record Laws : Type 0 where
   pub rubbish-is : RubbishIs
   pub settling-asks-no-quotes : SettlingAsksNoQuotes
   -- two results that a promise of src/lib.rt allows agree ("How much a promise says")
-  pub time-of-determined : (m : Message) → Determines (λ r. r ≡ timeOf m)
   pub bad-end-determined : (end : ℕ) → Determines (λ r. r ≡ badEnd end)
   pub bad-setup-determined : (u : Setup) → Determines (λ r. r ≡ badSetup u)
   pub judged-determined : (f : Figures) (k : Kept) (q : Quotes) → Determines (λ r. r ≡ verdictOf f (stockOf k q))

@@ -2,7 +2,6 @@
 // public function has a `requires`: each gives for every input what the rules say, and changes nothing.
 ghost use mathlib.Core.Path.{_≡_};
 ghost use Rattle.forms.specs.Checks.{first};
-ghost use Rattle.rules.specs.Messages.{timeOf};
 ghost use Rattle.rules.specs.Numbers.{badEnd, badSetup, messageChecks, timeChecks};
 ghost use Rattle.quotes.specs.Parts.{stockOf, bare};
 ghost use Rattle.judge.specs.Verdict.{verdictOf};
@@ -23,20 +22,6 @@ mod table;
 pub struct Verdict {
     pub earliest: Moment,
     pub rubbish: bool,
-}
-
-// The message's time.
-pub fn time_of(m: Message) -> u32
-    ensures { λ r. ⌜ r ≡ timeOf m ⌝ }
-{
-    match m {
-        Message::Trade { time, .. } => time,
-        Message::Quote { time, .. } => time,
-        Message::Opening { time, .. } => time,
-        Message::Pause { time, .. } => time,
-        Message::Reopening { time, .. } => time,
-        Message::Closing { time, .. } => time,
-    }
 }
 
 // Whether a session's end is out of range.
@@ -81,7 +66,7 @@ pub fn judged(f: Figures, k: Kept, q: Quotes) -> Verdict
 pub fn message_refusal(m: Message, held: u32, earliest: Moment, k: Kept, q: Quotes) -> u32
     ensures { λ r. ⌜ r ≡ first (messageChecks m held earliest (stockOf k q)) ⌝ }
 {
-    let time = time_of(m);
+    let time = letters::time_of(m);
     if message::out_of_range(k.end, m) {
         return 4;
     }

@@ -1,7 +1,8 @@
-// The message of each letter, by its numbers in the order of document 01. No function has a `requires`: which numbers
+// The message of each letter, by its numbers in the order of document 01, and a message's time. No function has a `requires`: which numbers
 // are in range is for the book to say.
 ghost use mathlib.Core.Path.{_≡_};
 ghost use Rattle.rules.specs.declared.Message.the-variants.{Trade, Quote, Opening, Pause, Reopening, Closing};
+ghost use Rattle.rules.specs.Messages.{timeOf};
 use rules::Message;
 
 // T: an eligible trade.
@@ -60,5 +61,19 @@ pub fn closing(time: u32, participant: u32, price: u32) -> Message
         time,
         participant,
         price,
+    }
+}
+
+// The message's time.
+pub fn time_of(m: Message) -> u32
+    ensures { λ r. ⌜ r ≡ timeOf m ⌝ }
+{
+    match m {
+        Message::Trade { time, .. } => time,
+        Message::Quote { time, .. } => time,
+        Message::Opening { time, .. } => time,
+        Message::Pause { time, .. } => time,
+        Message::Reopening { time, .. } => time,
+        Message::Closing { time, .. } => time,
     }
 }

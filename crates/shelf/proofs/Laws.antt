@@ -13,7 +13,8 @@ use Rattle.rules.specs.declared.Notice.{Notice}
 use Rattle.rules.proofs.Answers.{nothing-shown}
 use Rattle.stock.specs.View.{telling, settling}
 use Rattle.stock.specs.declared.Record.{Record}
-use Rattle.book.specs.Lent.{Lent, lent, Given, calling, noNotice, TellsIn, SettlesIn}
+use Rattle.calls.specs.Parts.{noNotice}
+use Rattle.book.specs.Lent.{Lent, lent, Given, calling, TellsIn, SettlesIn}
 use Rattle.book.specs.Setup.{setting, SetsUp}
 use Rattle.forms.proofs.Promises.{agree as one-value}
 use Rattle.shelf.specs.Blank.{blankRecords}

@@ -7,7 +7,8 @@ use lib.ListN.{take, drop}
 use Rattle.rules.specs.Numbers.{zeros}
 use Rattle.rules.specs.declared.Message.{Message}
 use Rattle.stock.specs.declared.Record.{Record}
-use Rattle.book.specs.Lent.{Lent, lent, noNotice, TellsIn, SettlesIn}
+use Rattle.calls.specs.Parts.{noNotice}
+use Rattle.book.specs.Lent.{Lent, lent, TellsIn, SettlesIn}
 use Rattle.book.specs.Setup.{SetsUp}
 use Rattle.shelf.specs.declared.Told8.{Told8}
 use Rattle.shelf.specs.declared.Settled8.{Settled8}

@@ -27,7 +27,7 @@ pub fn after_message(m: Message, f: Figures, k: Kept, q: Quotes) -> After
     ensures { λ r. ⌜ r ≡ afterOf (effectOf m (fit f) (stockOf k q)) ⌝ }
 {
     let g = rule::fitted(f);
-    let time = judge::time_of(m);
+    let time = letters::time_of(m);
     let turn = rule::message(m, g, set::at_time(time, k));
     look::left(turn, g, set::quotes_told(m, q))
 }

@@ -1,5 +1,6 @@
 //! Calls the library and the byte reader side by side on many books and compares what each call
 //! gives back and every byte it leaves. A seed may be named; without one it is always the same.
+//! tests/engine/run starts it, and says whether enough was called.
 
 mod arguments;
 mod book;
@@ -29,6 +30,14 @@ pub struct Run {
     pub pool: Pool,
 }
 
+/// The kinds of book that are played; those of the last two are made of what is reached before.
+const PARTS: [(&str, fn(&mut Run)); 4] = [
+    ("shapes", shapes::all),
+    ("reachable", player::all),
+    ("arguments", arguments::all),
+    ("rubbish", rubbish::all),
+];
+
 fn main() -> ExitCode {
     let seed = std::env::args().nth(1).map(|text| text.parse());
     let Ok(seed) = seed.unwrap_or(Ok(1)) else {
@@ -40,10 +49,10 @@ fn main() -> ExitCode {
         tally: Tally::default(),
         pool: Pool::default(),
     };
-    shapes::all(&mut run);
-    player::all(&mut run);
-    arguments::all(&mut run);
-    rubbish::all(&mut run);
+    for (part, play) in PARTS {
+        run.tally.begin(part);
+        play(&mut run);
+    }
     if run.tally.print() {
         ExitCode::SUCCESS
     } else {

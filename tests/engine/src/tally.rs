@@ -1,19 +1,9 @@
-//! Counts what was seen, and says whether that is enough.
+//! Counts what was called and seen, and prints it: a name and a row of counts to a line.
 
 use bytes::{Call, Given};
 
 /// The kinds of call, in the order of the table's rows.
-const KINDS: [&str; 9] = [
-    "setup",
-    "settle",
-    "read",
-    "T trade",
-    "Q quote",
-    "O opening",
-    "P pause",
-    "R reopening",
-    "X closing",
-];
+const KINDS: [&str; 9] = ["setup", "settle", "read", "T", "Q", "O", "P", "R", "X"];
 
 /// The numbers that the rules can give for each kind of call.
 const POSSIBLE: [&[usize]; 9] = [
@@ -29,13 +19,14 @@ const POSSIBLE: [&[usize]; 9] = [
 ];
 
 const MARKS: &[u8; 8] = b"zwxpcvfh";
-const CALLS_AT_LEAST: u64 = 1_000_000;
 const DIFFERENCES_AT_MOST: u64 = 10;
 
 #[derive(Default)]
 pub struct Tally {
     /// A row per kind of call, a column per number.
     table: [[u64; 15]; 9],
+    /// A row per kind of book, in the order in which they are played, a column per kind of call.
+    parts: Vec<(&'static str, [u64; 9])>,
     /// For each state the answers that told it.
     states: [u64; 6],
     marks: [u64; 8],
@@ -53,10 +44,26 @@ fn row(call: &Call) -> usize {
     }
 }
 
+fn print_row<T: std::fmt::Display>(name: &str, cells: &[T]) {
+    print!("{name:<11}");
+    for cell in cells {
+        print!("{cell:>8}");
+    }
+    println!();
+}
+
 impl Tally {
+    /// From here on calls are counted as those of this kind of book.
+    pub fn begin(&mut self, part: &'static str) {
+        self.parts.push((part, [0; 9]));
+    }
+
     pub fn count(&mut self, call: &Call, given: &Given, good_shape: bool) {
         let number = given.answer.number as usize;
         self.table[row(call)][number] += 1;
+        if let Some((_, calls)) = self.parts.last_mut() {
+            calls[row(call)] += 1;
+        }
         let is_setup = matches!(call, Call::Setup { .. });
         if !is_setup && !matches!(number, 1..=3) {
             self.states[given.answer.state as usize] += 1;
@@ -82,39 +89,35 @@ impl Tally {
         self.table.iter().flatten().sum()
     }
 
-    /// Prints the tables; true when enough was seen and nothing differs.
+    /// Prints the tables; true when all that can be seen was seen, and nothing differs.
     pub fn print(&self) -> bool {
-        self.print_table();
-        println!("states 0 to 5: {:?}", self.states);
-        for (mark, count) in MARKS.iter().zip(self.marks) {
-            print!("{} {count}  ", char::from(*mark));
-        }
-        println!("\non rubbish: {}", thousands(self.rubbish));
+        self.print_tables();
         let missing = self.missing();
         for line in &missing {
             println!("never seen: {line}");
         }
-        let calls = self.calls();
-        if calls < CALLS_AT_LEAST {
-            println!("too few calls, {} wanted", thousands(CALLS_AT_LEAST));
-        }
-        println!("{} calls, {} differ", thousands(calls), self.differences);
-        missing.is_empty() && calls >= CALLS_AT_LEAST && self.differences == 0
+        let calls = thousands(self.calls());
+        println!("{calls} calls, {} differ", self.differences);
+        missing.is_empty() && self.differences == 0
     }
 
-    fn print_table(&self) {
-        print!("{:<11}", "");
-        for number in 0..15 {
-            print!("{number:>8}");
-        }
-        println!();
+    fn print_tables(&self) {
+        print_row(
+            " number",
+            &std::array::from_fn::<usize, 15, _>(|number| number),
+        );
         for (kind, row) in KINDS.iter().zip(&self.table) {
-            print!("{kind:<11}");
-            for count in row {
-                print!("{count:>8}");
-            }
-            println!();
+            print_row(kind, row);
         }
+        print_row(" call", &KINDS);
+        for (part, calls) in &self.parts {
+            print_row(part, calls);
+        }
+        print_row(" state", &[0, 1, 2, 3, 4, 5]);
+        print_row("states", &self.states);
+        print_row(" mark", &MARKS.map(char::from));
+        print_row("marks", &self.marks);
+        print_row("answered-1", &[self.rubbish]);
     }
 
     /// What should have been seen and was not.

@@ -20,7 +20,7 @@ use ghost.Atoms.{Atoms, sem}
 use contract.Monad.{Fun, fact}
 use contract.Running.{givenOf, tables, tablesOf}
 use types.Kit.{Given, Item, ‵, raw, some, later, _⊛_, ⋆, _$_, _∵_, !, qed, by, move, keep, drop, use0, use1, use3, split, join, pick, rewrite, fsplit, fjoin, suffices, frame, await, done}
-use types.Run.{look, look-raw, init, store, forget, stop, hop, fld, from, load, lit, bin, of-opd, un, and-then, no-more, assigns, land, returns-within, returns, enter, alloc1, alloc0, params1, pass1, pass0, free1, free0}
+use types.Run.{look, look-raw, init, store, stop, hop, fld, from, load, lit, bin, of-opd, un, and-then, no-more, assigns, land, returns-within, returns, enter, params1, pass1, pass0}
 use types.Part.{whole, sub, look-in}
 use types.Share.{arr-parts}
 use sound.WpLaws.{FmC, fmOf, WpFn-mono}
@@ -51,23 +51,26 @@ use Rattle.stock.specs.declared.Record.{Record}
 use Rattle.stock.proofs.Record as T
 use Rattle.stock.proofs.Record.Laws as T′
 use Rattle.book.specs.Lent.{Lent, lent, noRecord, bytesOf, callNumber, readingIn}
-use Rattle.book.proofs.Called.{Inside, inside, read-in, unread-in}
+use Rattle.book.proofs.Called.{inside, read-in, unread-in}
 use Rattle.book.proofs.Guarded.{guarded}
 use Rattle.book.proofs.Walking.{bytes as element-fits}
+use Rattle.book.proofs.Locals.{opens-all, frees-all}
+use Rattle.book.proofs.Locals.Left.{bare, full}
+use Rattle.book.proofs.Values.{record-val, record-vals, record-tells, record-typed}
 use Rattle.rules.proofs.Answer as N
 use Rattle.rules.proofs.Answer.Laws as N′
-use Rattle.book.proofs.step.read_at as g
-use Rattle.book.proofs.step.read_at.Symbol as g-def
-use Rattle.book.proofs.step.read_at.Symbol.{name as #step}
-use Rattle.book.proofs.step.read_at.Met as g-thm
-use Rattle.book.proofs.step.call_number as nb
-use Rattle.book.proofs.step.call_number.Symbol as nb-def
-use Rattle.book.proofs.step.call_number.Symbol.{name as #number}
-use Rattle.book.proofs.step.call_number.Met as nb-thm
-use Rattle.book.proofs.step.zeros as no
-use Rattle.book.proofs.step.zeros.Symbol as no-def
-use Rattle.book.proofs.step.zeros.Symbol.{name as #no}
-use Rattle.book.proofs.step.zeros.Met as no-thm
+use Rattle.calls.proofs.read_at as g
+use Rattle.calls.proofs.read_at.Symbol as g-def
+use Rattle.calls.proofs.read_at.Symbol.{name as #step}
+use Rattle.calls.proofs.read_at.Met as g-thm
+use Rattle.calls.proofs.call_number as nb
+use Rattle.calls.proofs.call_number.Symbol as nb-def
+use Rattle.calls.proofs.call_number.Symbol.{name as #number}
+use Rattle.calls.proofs.call_number.Met as nb-thm
+use Rattle.calls.proofs.zeros as no
+use Rattle.calls.proofs.zeros.Symbol as no-def
+use Rattle.calls.proofs.zeros.Symbol.{name as #no}
+use Rattle.calls.proofs.zeros.Met as no-thm
 use Rattle.book.proofs.read as f
 use Rattle.book.proofs.read.Key.{name as #fn}
 use Rattle.book.proofs.read.Statement as stated
@@ -84,11 +87,8 @@ TS = plain (λ _. T.the-row)
 abbrev stayed : Stays (f.ended .signature .params) (f.ended .kept)
 stayed = (stay-none-slice (0 ∷ []) tt TS yes, (stay-none-slice (1 ∷ []) tt PS yes, (stay-none-slice (2 ∷ []) tt PS yes, (stay-none (λ _. u32) yes, tt))))
 
-abbrev valT : Record → Val
-valT = LL.val T.the-type T′.the-laws
-
 abbrev IsT : Record → Type 0
-IsT h = Is T.the-row h (valT h ∷ [])
+IsT h = Is T.the-row h (record-val h ∷ [])
 
 module _ {M : Type 1} (𝓤 : URA M) (H : Heap 𝓤) (A : Atoms 𝓤) (mem : Memory → SProp 𝓤) (run : Routine → Fun 𝓤) where
   abbrev Step : Contract 𝓤
@@ -187,11 +187,11 @@ module _ {M : Type 1} (𝓤 : URA M) (H : Heap 𝓤) (A : Atoms 𝓤) (W : Given
   x′ = (one, (x₁, (x₂, (i, tt))))
 
   abbrev to-step : Step 𝓤 H A at-mem run .Ghost
-  to-step = (((κ₁, (κ₂, tt)), (q₁, (q₂, tt)), tt, x′, (valT one ∷ [], (s₁ ∷ [], (s₂ ∷ [], (vint w64 i ∷ [], tt))))), tt)
+  to-step = (((κ₁, (κ₂, tt)), (q₁, (q₂, tt)), tt, x′, (record-val one ∷ [], (s₁ ∷ [], (s₂ ∷ [], (vint w32 i ∷ [], tt))))), tt)
 
-  goes-step : IsT one → Inside i was → ent 𝓤 (⋆ 𝓤 H A (tokens ∷ own₁ ∷ own₂ ∷ [])) (Step 𝓤 H A at-mem run .pre to-step)
-  goes-step is inn = qed W (tokens ∷ own₁ ∷ own₂ ∷ []) ∵ says ! (inn .times-of, inn .prices-of) $ frame ! $ nothing ! $ owned ! usize (Is usize) (uint-makes 𝓤 H A W w64) i _ i-wide $ fjoin ! $
-      move ! (2 ∷ 0 ∷ []) $ fjoin ! $ move ! (1 ∷ 0 ∷ []) $ fjoin ! $ owned ! T.the-row (Is T.the-row) (LL.makes T.the-type T′.the-plain 𝓤 H A) one _ is $ fjoin ! $ done !
+  goes-step : IsT one → ent 𝓤 (⋆ 𝓤 H A (tokens ∷ own₁ ∷ own₂ ∷ [])) (Step 𝓤 H A at-mem run .pre to-step)
+  goes-step is = qed W (tokens ∷ own₁ ∷ own₂ ∷ []) ∵ nothing ! $ owned ! u32 (Is u32) (uint-makes 𝓤 H A W w32) i _ i-is $ fjoin ! $
+      move ! (3 ∷ 0 ∷ []) $ fjoin ! $ move ! (2 ∷ 0 ∷ []) $ fjoin ! $ owned ! T.the-row (Is T.the-row) (LL.makes T.the-type T′.the-plain 𝓤 H A) one _ is $ fjoin ! $ move ! (1 ∷ 0 ∷ []) $ join ! $ frame ! $ done !
 
   said-step : (r : Answer) → ent 𝓤 (ensured 𝓤 H A g.ended (g.clauses 𝓤 H A at-mem run) (κ₁, (κ₂, tt)) x′ tt r) (fact 𝓤 (r ≡ reading (bytesOf i was)))
   said-step r = exE 𝓤 _ (λ ws. snd∗ 𝓤 (sem 𝓤 H A (lasts g.ended (κ₁, (κ₂, tt)) x′ ws)) (fact 𝓤 (r ≡ reading (bytesOf i was))))
@@ -225,90 +225,88 @@ module _ {M : Type 1} (𝓤 : URA M) (H : Heap 𝓤) (A : Atoms 𝓤) (W : Given
         move ! (2 ∷ 3 ∷ 4 ∷ 5 ∷ 1 ∷ 0 ∷ []) $
         -- [obs; borrow; token; tokens; own1; own2]
         enter ! C Λ code.function (s₀ ∷ s₁ ∷ s₂ ∷ vint w32 i ∷ []) _ $
-        alloc1 ! (λ l₀. alloc1 ! (λ l₁. alloc1 ! (λ l₂. alloc1 ! (λ l₃. alloc1 ! (λ l₄. alloc1 ! (λ l₅. alloc1 ! (λ l₆. alloc1 ! (λ l₇. alloc1 ! (λ l₈. alloc1 ! (λ l₉. alloc1 ! (λ l₁₀. alloc1 ! (λ l₁₁. alloc1 ! (λ l₁₂.
-        alloc0 ! $ params1 ! $
-        pass1 ! (init ! 22 refl (tt, (tt, (record { fits = room₀ .0 }, tt)))) $
-        pass1 ! (init ! 20 refl (tt, (tt, (record { fits = room₁ .0 }, tt)))) $
-        pass1 ! (init ! 18 refl (tt, (tt, (record { fits = room₂ .0 }, tt)))) $
-        pass1 ! (init ! 16 refl (tt, record { fits = i-is .1 })) $
+        opens-all ! (λ l₀ l₁ l₂ l₃ l₄ l₅ l₆ l₇ l₈ l₉ l₁₀ l₁₁ l₁₂.
+        params1 ! $
+        pass1 ! (init ! 1 refl (tt, (tt, (record { fits = room₀ .0 }, tt)))) $
+        pass1 ! (init ! 2 refl (tt, (tt, (record { fits = room₁ .0 }, tt)))) $
+        pass1 ! (init ! 3 refl (tt, (tt, (record { fits = room₂ .0 }, tt)))) $
+        pass1 ! (init ! 4 refl (tt, record { fits = i-is .1 })) $
         pass0 ! $
-        assigns ! (un ! (load ! (from ! (stop !)) (look ! 16 refl)) (record { fits = i-wide .1 })) (from ! (stop !)) (init ! 14 refl (tt, record { fits = i-wide .1 })) $
-        assigns ! (of-opd ! (load ! (from ! (fld ! refl (stop !))) (look-in ! 22 (sub ! 1 refl (whole !))))) (from ! (stop !)) (init ! 10 refl (tt, record { fits = room₀ .0 })) $
-        assigns ! (of-opd ! (load ! (from ! (fld ! refl (stop !))) (look-in ! 20 (sub ! 1 refl (whole !))))) (from ! (stop !)) (init ! 8 refl (tt, record { fits = room₁ .0 })) $
-        assigns ! (of-opd ! (load ! (from ! (fld ! refl (stop !))) (look-in ! 18 (sub ! 1 refl (whole !))))) (from ! (stop !)) (init ! 6 refl (tt, record { fits = room₂ .0 })) $
+        assigns ! (un ! (load ! (from ! (stop !)) (look ! 4 refl)) (record { fits = i-wide .1 })) (from ! (stop !)) (init ! 5 refl (tt, record { fits = i-wide .1 })) $
+        assigns ! (of-opd ! (load ! (from ! (fld ! {d = 8} refl (stop !))) (look-in ! 1 (sub ! 1 {d = 8} refl (whole !))))) (from ! (stop !)) (init ! 7 refl (tt, record { fits = room₀ .0 })) $
+        assigns ! (of-opd ! (load ! (from ! (fld ! {d = 8} refl (stop !))) (look-in ! 2 (sub ! 1 {d = 8} refl (whole !))))) (from ! (stop !)) (init ! 8 refl (tt, record { fits = room₁ .0 })) $
+        assigns ! (of-opd ! (load ! (from ! (fld ! {d = 8} refl (stop !))) (look-in ! 3 (sub ! 1 {d = 8} refl (whole !))))) (from ! (stop !)) (init ! 9 refl (tt, record { fits = room₂ .0 })) $
         use0 W (raw (Number 𝓤 H A at-mem run .pre to-number)) (goes-number) $
-        calls-at ! fm (Number 𝓤 H A at-mem run) known-number to-number (and-then ! (load ! (from ! (stop !)) (look ! 11 refl)) (and-then ! (load ! (from ! (stop !)) (look ! 9 refl)) (and-then ! (load ! (from ! (stop !)) (look ! 7 refl)) (and-then ! (load ! (from ! (stop !)) (look ! 15 refl)) (no-more !))))) (λ u.
+        calls-at ! fm (Number 𝓤 H A at-mem run) known-number to-number (and-then ! (load ! (from ! (stop !)) (look ! 8 refl)) (and-then ! (load ! (from ! (stop !)) (look ! 9 refl)) (and-then ! (load ! (from ! (stop !)) (look ! 10 refl)) (and-then ! (load ! (from ! (stop !)) (look ! 6 refl)) (no-more !))))) (λ u.
         use1 W (later (some (λ (n : ℕ). (‵ ftrue ⊛ ‵ (u32 .own n (u ∷ []))) ⊛ raw (ensured 𝓤 H A nb.ended (nb.clauses 𝓤 H A at-mem run) tt xn tt n)))) (id⊢ 𝓤 _) $
         await ! tt $
         pick ! (λ n.
         split ! $
-        move ! (1 ∷ []) $
-        use1 W (raw (fact 𝓤 (n ≡ callNumber i was))) (said-number n) $
-        heard ! (n ≡ callNumber i was) (λ c.
         split ! $
-        drop ! $
+        move ! (1 ∷ []) $
         peeks ! u32 (Is u32) (shows 𝓤 H A u32) n (u ∷ []) (λ n-is.
         drop ! $
-        land ! (from ! (stop !)) (init ! 12 refl (uint-lawful 𝓤 H A W w32 .typed n _ n-is .0)) $
-        rewrite ! 12 (λ (z : Val). ‵ (fat fullShare (tyInt w32) l₆ 0 z)) (ap only (n-is .0)) refl $
-        assigns ! (bin ! (load ! (from ! (stop !)) (look ! 12 refl)) (lit ! tt) tt) (from ! (stop !)) (init ! 4 refl (tt, tt)) $
-        -- [_12; _12+; _11; _11+; _10; _10+; _9; _9+; _8; _8+; _7; _7+; _6; _6+; _5; _5+; _4; _4+; _3; _3+; _2; _2+; _1; _1+; _0; _0+; obs; borrow; token; tokens; own1; own2]
-        guarded ! (load ! (from ! (stop !)) (look ! 4 refl))
+        drop ! $
+        use1 W (raw (fact 𝓤 (n ≡ callNumber i was))) (said-number n) $
+        heard ! (n ≡ callNumber i was) (λ c.
+        land ! (from ! (stop !)) (init ! 6 refl (uint-lawful 𝓤 H A W w32 .typed n _ n-is .0)) $
+        rewrite ! 6 (λ (z : Val). ‵ (fat fullShare (tyInt w32) l₆ 0 z)) (ap only (n-is .0)) refl $
+        assigns ! (bin ! (load ! (from ! (stop !)) (look ! 6 refl)) (lit ! tt) tt) (from ! (stop !)) (init ! 10 refl (tt, tt)) $
+        -- [_0; _1; _2; _3; _4; _5; _6; _7; _8; _9; _10; _11; _12; dies; obs; borrow; token; tokens; own1; own2]
+        guarded ! (load ! (from ! (stop !)) (look ! 10 refl))
         (λ bad.
         use0 W (raw (No 𝓤 H A at-mem run .pre (to-no n))) (goes-no n (refl, n-is .1)) $
-        calls-at ! fm (No 𝓤 H A at-mem run) known-no (to-no n) (and-then ! (load ! (from ! (stop !)) (look ! 13 refl)) (no-more !)) (λ v.
+        calls-at ! fm (No 𝓤 H A at-mem run) known-no (to-no n) (and-then ! (load ! (from ! (stop !)) (look ! 7 refl)) (no-more !)) (λ v.
         use1 W (later (some (λ (r : Answer). (‵ ftrue ⊛ ‵ (N.the-row .own r (v ∷ []))) ⊛ raw (ensured 𝓤 H A no.ended (no.clauses 𝓤 H A at-mem run) tt (n, tt) tt r)))) (id⊢ 𝓤 _) $
         await ! tt $
         pick ! (λ r.
         split ! $
-        move ! (1 ∷ []) $
-        use1 W (raw (fact 𝓤 (r ≡ zeros n))) (said-no n r) $
-        heard ! (r ≡ zeros n) (λ z.
         split ! $
-        drop ! $
+        move ! (1 ∷ []) $
         peeks ! N.the-row (Is N.the-row) (shows 𝓤 H A N.the-row) r (v ∷ []) (λ is.
         drop ! $
-        land ! (from ! (stop !)) (init ! 24 refl (LL.lawful N.the-type N′.the-laws 𝓤 H A W .typed r _ is .0)) $
-        returns-within ! Post refl (look ! 24 refl) $
-        forget ! 4 refl $ forget ! 6 refl $ forget ! 8 refl $ forget ! 10 refl $ forget ! 12 refl $ forget ! 14 refl $ forget ! 16 refl $ forget ! 18 refl $ forget ! 20 refl $ forget ! 22 refl $ forget ! 24 refl $
-        move ! (24 ∷ 25 ∷ []) $ free1 ! $ move ! (22 ∷ 23 ∷ []) $ free1 ! $ move ! (20 ∷ 21 ∷ []) $ free1 ! $ move ! (18 ∷ 19 ∷ []) $ free1 ! $ move ! (16 ∷ 17 ∷ []) $ free1 ! $ move ! (14 ∷ 15 ∷ []) $ free1 ! $ move ! (12 ∷ 13 ∷ []) $ free1 ! $ move ! (10 ∷ 11 ∷ []) $ free1 ! $ move ! (8 ∷ 9 ∷ []) $ free1 ! $ move ! (6 ∷ 7 ∷ []) $ free1 ! $ move ! (4 ∷ 5 ∷ []) $ free1 ! $ move ! (2 ∷ 3 ∷ []) $ free1 ! $ move ! (0 ∷ 1 ∷ []) $ free1 ! $ free0 ! $
+        drop ! $
+        use1 W (raw (fact 𝓤 (r ≡ zeros n))) (said-no n r) $
+        heard ! (r ≡ zeros n) (λ z.
+        land ! (from ! (stop !)) (init ! 0 refl (LL.lawful N.the-type N′.the-laws 𝓤 H A W .typed r _ is .0)) $
+        returns-within ! Post refl (look ! 0 refl) $
+        frees-all ! 0 (full _ ∷ full _ ∷ full _ ∷ full _ ∷ full _ ∷ full _ ∷ full _ ∷ full _ ∷ full _ ∷ full _ ∷ full _ ∷ bare ∷ bare ∷ []) refl $
         keep ! (0 ∷ 1 ∷ 2 ∷ 3 ∷ 4 ∷ 5 ∷ []) $
         by ! (exits r v is (unread-in i n was r c bad z)))))))
         (λ good.
-        move ! (27 ∷ 28 ∷ []) $
-        looks-slice ! tt T.the-row (Is T.the-row) (shows 𝓤 H A T.the-row) (LL.vals T.the-type T′.the-laws) (LL.tells T.the-type T′.the-laws) (LL.copy T.the-type T′.the-copy 𝓤 H A W) ys b o (λ q′. elem-out ! T.the-row (Is T.the-row) (shows 𝓤 H A T.the-row) (LL.vals T.the-type T′.the-laws) (LL.tells T.the-type T′.the-laws) q′ ys i noRecord b o (inside i n was c good .record-of) (λ is-one.
-        -- [cell; own; others; open; borrow; _12; _12+; _11; _11+; _10; _10+; _9; _9+; _8; _8+; _7; _7+; _6; _6+; _5; _5+; _4; _4+; _3; _3+; _2; _2+; _1; _1+; _0; _0+; obs; tokens; own1; own2]
-        assigns ! (bin ! (load ! (from ! (stop !)) (look ! 19 refl)) (lit ! tt) (record { fits = element-fits (length ys) (mem T.the-row .size) i (room₀ .1) (inside i n was c good .record-of) })) (from ! (stop !)) (store ! 15 refl (tt, record { fits = element-fits (length ys) (mem T.the-row .size) i (room₀ .1) (inside i n was c good .record-of) })) $
-        assigns ! (bin ! (load ! (from ! (fld ! refl (stop !))) (look-in ! 27 (sub ! 0 refl (whole !)))) (load ! (from ! (stop !)) (look ! 15 refl)) tt) (from ! (stop !)) (init ! 7 refl (tt, tt)) $
-        rewrite ! 7 (λ (k : ℕ). ‵ (fat fullShare tyPtr l₁₁ 0 (vptr b k))) (sym (place-is (mem T.the-row .size) o i)) refl $
-        assigns ! (of-opd ! (load ! (from ! (hop ! (look ! 7 refl) (stop !))) (look-raw ! 0 refl))) (from ! (stop !)) (init ! 5 refl (LL.lawful T.the-type T′.the-laws 𝓤 H A W .typed one _ is-one .0)) $
-        elem-back ! T.the-row q′ ys i noRecord (valT one ∷ []) b o (inside i n was c good .record-of) $ shuts-slice ! tt T.the-row q′ ys b o $
-        move ! (30 ∷ []) $
+        move ! (15 ∷ 16 ∷ []) $
+        looks-slice ! tt T.the-row (Is T.the-row) (shows 𝓤 H A T.the-row) record-vals record-tells (LL.copy T.the-type T′.the-copy 𝓤 H A W) ys b o (λ q′. elem-out ! T.the-row (Is T.the-row) (shows 𝓤 H A T.the-row) record-vals record-tells q′ ys i noRecord b o (inside i n was c good .record-of) (λ is-one.
+        -- [cell; own; others; open; borrow; _0; _1; _2; _3; _4; _5; _6; _7; _8; _9; _10; _11; _12; dies; obs; tokens; own1; own2]
+        assigns ! (bin ! (load ! (from ! (stop !)) (look ! 10 refl)) (lit ! tt) (record { fits = element-fits (length ys) (mem T.the-row .size) i (room₀ .1) (inside i n was c good .record-of) })) (from ! (stop !)) (store ! 12 refl (tt, record { fits = element-fits (length ys) (mem T.the-row .size) i (room₀ .1) (inside i n was c good .record-of) })) $
+        assigns ! (bin ! (load ! (from ! (fld ! {d = 0} refl (stop !))) (look-in ! 6 (sub ! 0 {d = 0} refl (whole !)))) (load ! (from ! (stop !)) (look ! 12 refl)) tt) (from ! (stop !)) (init ! 16 refl (tt, tt)) $
+        rewrite ! 16 (λ (k : ℕ). ‵ (fat fullShare tyPtr l₁₁ 0 (vptr b k))) (sym (place-is (mem T.the-row .size) o i)) refl $
+        assigns ! (of-opd ! (load ! (from ! (hop ! (look ! 16 refl) (stop !))) (look-raw ! 0 refl))) (from ! (stop !)) (init ! 17 refl (record-typed 𝓤 H A W one is-one)) $
+        elem-back ! T.the-row q′ ys i noRecord (record-val one ∷ []) b o (inside i n was c good .record-of) $ shuts-slice ! tt T.the-row q′ ys b o $
+        move ! (18 ∷ []) $
         use1 W (own₁ ⊛ own₁) (shr-slice-copy 𝓤 H A W (named 0) κ₁ u32 .twice x₁ (s₁ ∷ [])) $
         split ! $
-        move ! (32 ∷ []) $
+        move ! (20 ∷ []) $
         use1 W (own₂ ⊛ own₂) (shr-slice-copy 𝓤 H A W (named 0) κ₂ u32 .twice x₂ (s₂ ∷ [])) $
         split ! $
-        move ! (33 ∷ 3 ∷ 1 ∷ []) $
-        use3 W (raw (Step 𝓤 H A at-mem run .pre to-step)) (goes-step is-one (inside i n was c good)) $
-        calls-at ! fm (Step 𝓤 H A at-mem run) known to-step (and-then ! (load ! (from ! (stop !)) (look ! 5 refl)) (and-then ! (load ! (from ! (stop !)) (look ! 25 refl)) (and-then ! (load ! (from ! (stop !)) (look ! 23 refl)) (and-then ! (load ! (from ! (stop !)) (look ! 19 refl)) (no-more !))))) (λ v.
+        move ! (21 ∷ 3 ∷ 1 ∷ []) $
+        use3 W (raw (Step 𝓤 H A at-mem run .pre to-step)) (goes-step is-one) $
+        calls-at ! fm (Step 𝓤 H A at-mem run) known to-step (and-then ! (load ! (from ! (stop !)) (look ! 17 refl)) (and-then ! (load ! (from ! (stop !)) (look ! 7 refl)) (and-then ! (load ! (from ! (stop !)) (look ! 8 refl)) (and-then ! (load ! (from ! (stop !)) (look ! 9 refl)) (no-more !))))) (λ v.
         use1 W (later (some (λ (r : Answer). (tokens ⊛ ‵ (N.the-row .own r (v ∷ []))) ⊛ raw (ensured 𝓤 H A g.ended (g.clauses 𝓤 H A at-mem run) (κ₁, (κ₂, tt)) x′ tt r)))) (id⊢ 𝓤 _) $
         await ! tt $
         pick ! (λ r.
         split ! $
-        move ! (1 ∷ []) $
-        use1 W (raw (fact 𝓤 (r ≡ reading (bytesOf i was)))) (said-step r) $
-        heard ! (r ≡ reading (bytesOf i was)) (λ e.
         split ! $
         move ! (1 ∷ []) $
         peeks ! N.the-row (Is N.the-row) (shows 𝓤 H A N.the-row) r (v ∷ []) (λ is.
         drop ! $
-        land ! (from ! (stop !)) (init ! 29 refl (LL.lawful N.the-type N′.the-laws 𝓤 H A W .typed r _ is .0)) $
-        returns ! (look ! 29 refl) $
-        forget ! 5 refl $ forget ! 7 refl $ forget ! 9 refl $ forget ! 11 refl $ forget ! 13 refl $ forget ! 15 refl $ forget ! 17 refl $ forget ! 19 refl $ forget ! 21 refl $ forget ! 23 refl $ forget ! 25 refl $ forget ! 27 refl $ forget ! 29 refl $
-        move ! (29 ∷ 30 ∷ []) $ free1 ! $ move ! (27 ∷ 28 ∷ []) $ free1 ! $ move ! (25 ∷ 26 ∷ []) $ free1 ! $ move ! (23 ∷ 24 ∷ []) $ free1 ! $ move ! (21 ∷ 22 ∷ []) $ free1 ! $ move ! (19 ∷ 20 ∷ []) $ free1 ! $ move ! (17 ∷ 18 ∷ []) $ free1 ! $ move ! (15 ∷ 16 ∷ []) $ free1 ! $ move ! (13 ∷ 14 ∷ []) $ free1 ! $ move ! (11 ∷ 12 ∷ []) $ free1 ! $ move ! (9 ∷ 10 ∷ []) $ free1 ! $ move ! (7 ∷ 8 ∷ []) $ free1 ! $ move ! (5 ∷ 6 ∷ []) $ free1 ! $ free0 ! $
+        move ! (1 ∷ []) $
+        use1 W (raw (fact 𝓤 (r ≡ reading (bytesOf i was)))) (said-step r) $
+        heard ! (r ≡ reading (bytesOf i was)) (λ e.
+        land ! (from ! (stop !)) (init ! 5 refl (LL.lawful N.the-type N′.the-laws 𝓤 H A W .typed r _ is .0)) $
+        returns ! (look ! 5 refl) $
+        frees-all ! 5 (full _ ∷ full _ ∷ full _ ∷ full _ ∷ full _ ∷ full _ ∷ full _ ∷ full _ ∷ full _ ∷ full _ ∷ full _ ∷ full _ ∷ full _ ∷ []) refl $
         keep ! (5 ∷ 4 ∷ 3 ∷ 0 ∷ 2 ∷ 1 ∷ []) $
-        by ! (exits r v is (read-in i n was r c good e))))))))))))))))))))))))))
+        by ! (exits r v is (read-in i n was r c good e))))))))))))))
 
 -- ------------------------------------------------------------------ the statement
 
@@ -332,6 +330,6 @@ read-spec 𝓤 H 𝓜 𝓖 𝓡 =
     entered 𝓤 H (tripleOf 𝓤 H (𝓖 .A) f.signature (f.spec 𝓤 H (𝓖 .A) (𝓜 .mem) (𝓡 .run)))
     (tables 𝓤 H 𝓜 𝓡 code.env .C) (tables 𝓤 H 𝓜 𝓡 code.env .Λ) #fn code.function (code.unfolded 𝓤 H 𝓜 𝓡)
     (meets 𝓤 H (𝓖 .A) (givenOf 𝓤 H 𝓜 𝓖) (𝓜 .mem) (𝓡 .run) (tablesOf 𝓤 H 𝓜 (tables 𝓤 H 𝓜 𝓡 code.env))
-    (cited 𝓤 H (Step 𝓤 H (𝓖 .A) (𝓜 .mem) (𝓡 .run)) 𝓜 𝓡 code.env #step g-def.routine code.calls-book·step·read-at (g-thm.met 𝓤 H 𝓜 𝓖 𝓡))
-    (cited 𝓤 H (Number 𝓤 H (𝓖 .A) (𝓜 .mem) (𝓡 .run)) 𝓜 𝓡 code.env #number nb-def.routine code.calls-book·step·call-number (nb-thm.met 𝓤 H 𝓜 𝓖 𝓡))
-    (cited 𝓤 H (No 𝓤 H (𝓖 .A) (𝓜 .mem) (𝓡 .run)) 𝓜 𝓡 code.env #no no-def.routine code.calls-book·step·zeros (no-thm.met 𝓤 H 𝓜 𝓖 𝓡)))
+    (cited 𝓤 H (Step 𝓤 H (𝓖 .A) (𝓜 .mem) (𝓡 .run)) 𝓜 𝓡 code.env #step g-def.routine code.calls-calls·read-at (g-thm.met 𝓤 H 𝓜 𝓖 𝓡))
+    (cited 𝓤 H (Number 𝓤 H (𝓖 .A) (𝓜 .mem) (𝓡 .run)) 𝓜 𝓡 code.env #number nb-def.routine code.calls-calls·call-number (nb-thm.met 𝓤 H 𝓜 𝓖 𝓡))
+    (cited 𝓤 H (No 𝓤 H (𝓖 .A) (𝓜 .mem) (𝓡 .run)) 𝓜 𝓡 code.env #no no-def.routine code.calls-calls·zeros (no-thm.met 𝓤 H 𝓜 𝓖 𝓡)))

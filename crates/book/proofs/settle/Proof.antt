@@ -21,7 +21,7 @@ use ghost.Atoms.{Atoms, sem}
 use contract.Monad.{Fun, fact}
 use contract.Running.{givenOf, tables, tablesOf}
 use types.Kit.{Given, Item, ‵, raw, some, later, _⊛_, ⋆, _$_, _∵_, !, qed, by, move, keep, drop, use0, use1, use3, split, join, pick, rewrite, fsplit, fjoin, feqL, suffices, frame, await, done}
-use types.Run.{look, look-raw, init, store, store-raw, forget, stop, hop, fld, from, load, lit, addr, bin, of-opd, un, and-then, no-more, assigns, land, returns-within, returns, enter, alloc1, alloc0, params1, pass1, pass0, free1, free0}
+use types.Run.{look, look-raw, init, store, store-raw, stop, hop, fld, from, load, lit, addr, bin, of-opd, un, and-then, no-more, assigns, land, returns-within, returns, enter, params1, pass1, pass0}
 use types.Part.{agg, whole, sub, look-in}
 use sound.WpLaws.{FmC, fmOf, WpFn-mono}
 use denote.RattleType.{owns}
@@ -50,27 +50,31 @@ use Rattle.stock.specs.View.{settling}
 use Rattle.stock.specs.declared.Record.{Record}
 use Rattle.stock.proofs.Record as T
 use Rattle.stock.proofs.Record.Laws as T′
-use Rattle.book.specs.Lent.{Lent, lent, noRecord, callNumber, noNotice, SettlesIn, SettledAt}
-use Rattle.book.proofs.Called.{Inside, inside, done-in, kept-in, settled-unchanged, refused-in}
+use Rattle.calls.specs.Parts.{noNotice, SettledAt}
+use Rattle.book.specs.Lent.{Lent, lent, noRecord, callNumber, SettlesIn}
+use Rattle.book.proofs.Called.{inside, done-in, kept-in, settled-unchanged, refused-in}
 use Rattle.book.proofs.Guarded.{guarded}
 use Rattle.book.proofs.Walking.{bytes as element-fits, gives}
+use Rattle.book.proofs.Locals.{opens-all, frees-all}
+use Rattle.book.proofs.Locals.Left.{bare, full}
+use Rattle.book.proofs.Values.{record-val, record-vals, record-tells, record-typed, notice-val, notice-number, notice-typed, settled-val, settled-notice, settled-next, settled-typed, settled-at-0, settled-at-1, answer-at-0, notice-at-0}
 use Rattle.stock.specs.declared.Settled.{Settled}
 use Rattle.stock.proofs.Settled as D
 use Rattle.stock.proofs.Settled.Laws as D′
 use Rattle.rules.proofs.Notice as N
 use Rattle.rules.proofs.Notice.Laws as N′
-use Rattle.book.proofs.step.settled_at as g
-use Rattle.book.proofs.step.settled_at.Symbol as g-def
-use Rattle.book.proofs.step.settled_at.Symbol.{name as #step}
-use Rattle.book.proofs.step.settled_at.Met as g-thm
-use Rattle.book.proofs.step.call_number as nb
-use Rattle.book.proofs.step.call_number.Symbol as nb-def
-use Rattle.book.proofs.step.call_number.Symbol.{name as #number}
-use Rattle.book.proofs.step.call_number.Met as nb-thm
-use Rattle.book.proofs.step.zero_notice as no
-use Rattle.book.proofs.step.zero_notice.Symbol as no-def
-use Rattle.book.proofs.step.zero_notice.Symbol.{name as #no}
-use Rattle.book.proofs.step.zero_notice.Met as no-thm
+use Rattle.calls.proofs.settled_at as g
+use Rattle.calls.proofs.settled_at.Symbol as g-def
+use Rattle.calls.proofs.settled_at.Symbol.{name as #step}
+use Rattle.calls.proofs.settled_at.Met as g-thm
+use Rattle.calls.proofs.call_number as nb
+use Rattle.calls.proofs.call_number.Symbol as nb-def
+use Rattle.calls.proofs.call_number.Symbol.{name as #number}
+use Rattle.calls.proofs.call_number.Met as nb-thm
+use Rattle.calls.proofs.zero_notice as no
+use Rattle.calls.proofs.zero_notice.Symbol as no-def
+use Rattle.calls.proofs.zero_notice.Symbol.{name as #no}
+use Rattle.calls.proofs.zero_notice.Met as no-thm
 use Rattle.book.proofs.settle as f
 use Rattle.book.proofs.settle.Key.{name as #fn}
 use Rattle.book.proofs.settle.Statement as stated
@@ -87,21 +91,8 @@ TS = plain (λ _. T.the-row)
 abbrev stayed : Stays (f.ended .signature .params) (f.ended .kept)
 stayed = (stay-slice (0 ∷ []) tt TS, (gave-slice (1 ∷ []) tt PS, (gave-slice (2 ∷ []) tt PS, (stay-none (λ _. u32) yes, (stay-none (λ _. u32) yes, tt)))))
 
-abbrev valT : Record → Val
-valT = LL.val T.the-type T′.the-laws
-
-abbrev valN : Notice → Val
-valN = LL.val N.the-type N′.the-laws
-
 abbrev IsT : Record → Type 0
-IsT h = Is T.the-row h (valT h ∷ [])
-
--- what is known of the next record and of the answer
-is-next : (r : Settled) (v : Val) → Is D.the-row r (v ∷ []) → IsT (r .next)
-is-next r v is = LL.owed D.the-type D′.the-laws r _ is .1 .0
-
-is-answer : (r : Settled) (v : Val) → Is D.the-row r (v ∷ []) → Is N.the-row (r .notice) (valN (r .notice) ∷ [])
-is-answer r v is = LL.owed D.the-type D′.the-laws r _ is .0
+IsT h = Is T.the-row h (record-val h ∷ [])
 
 module _ {M : Type 1} (𝓤 : URA M) (H : Heap 𝓤) (A : Atoms 𝓤) (mem : Memory → SProp 𝓤) (run : Routine → Fun 𝓤) where
   abbrev Step : Contract 𝓤
@@ -200,11 +191,11 @@ module _ {M : Type 1} (𝓤 : URA M) (H : Heap 𝓤) (A : Atoms 𝓤) (W : Given
   x′ = (one, (x₁, (x₂, (i, (t, tt)))))
 
   abbrev to-step : Step 𝓤 H A at-mem run .Ghost
-  to-step = (((κ₁, (κ₂, tt)), (q₁, (q₂, tt)), tt, x′, (valT one ∷ [], (s₁ ∷ [], (s₂ ∷ [], (vint w64 i ∷ [], (vint w32 t ∷ [], tt)))))), tt)
+  to-step = (((κ₁, (κ₂, tt)), (q₁, (q₂, tt)), tt, x′, (record-val one ∷ [], (s₁ ∷ [], (s₂ ∷ [], (vint w32 i ∷ [], (vint w32 t ∷ [], tt)))))), tt)
 
-  goes-step : IsT one → Inside i was → ent 𝓤 (⋆ 𝓤 H A (tokens ∷ own₁ ∷ own₂ ∷ [])) (Step 𝓤 H A at-mem run .pre to-step)
-  goes-step is inn = qed W (tokens ∷ own₁ ∷ own₂ ∷ []) ∵ says ! (inn .times-of, inn .prices-of) $ frame ! $ nothing ! $ owned ! u32 (Is u32) (uint-makes 𝓤 H A W w32) t _ t-is $ fjoin ! $ owned ! usize (Is usize) (uint-makes 𝓤 H A W w64) i _ i-wide $ fjoin ! $
-      move ! (2 ∷ 0 ∷ []) $ fjoin ! $ move ! (1 ∷ 0 ∷ []) $ fjoin ! $ owned ! T.the-row (Is T.the-row) (LL.makes T.the-type T′.the-plain 𝓤 H A) one _ is $ fjoin ! $ done !
+  goes-step : IsT one → ent 𝓤 (⋆ 𝓤 H A (tokens ∷ own₁ ∷ own₂ ∷ [])) (Step 𝓤 H A at-mem run .pre to-step)
+  goes-step is = qed W (tokens ∷ own₁ ∷ own₂ ∷ []) ∵ nothing ! $ owned ! u32 (Is u32) (uint-makes 𝓤 H A W w32) t _ t-is $ fjoin ! $ owned ! u32 (Is u32) (uint-makes 𝓤 H A W w32) i _ i-is $ fjoin ! $
+      move ! (3 ∷ 0 ∷ []) $ fjoin ! $ move ! (2 ∷ 0 ∷ []) $ fjoin ! $ owned ! T.the-row (Is T.the-row) (LL.makes T.the-type T′.the-plain 𝓤 H A) one _ is $ fjoin ! $ move ! (1 ∷ 0 ∷ []) $ join ! $ frame ! $ done !
 
   -- what the callee says of the arrays' last lists
   abbrev Ends : Type 0
@@ -223,13 +214,13 @@ module _ {M : Type 1} (𝓤 : URA M) (H : Heap 𝓤) (A : Atoms 𝓤) (W : Given
 
   -- with the records at the end: the next one stored, or none
   exits : (ys′ : List Record) → length ys′ ≡ length ys → (r : Settled) (v : Val) (zs₁ zs₂ : List ℕ) → Is D.the-row r (v ∷ []) → SettlesIn i t was (r .notice) (lent ys′ zs₁ zs₂) → length zs₁ ≡ length (x₁ .now) → length zs₂ ≡ length (x₂ .now)
-      → ent 𝓤 (⋆ 𝓤 H A (‵ (fobs γ (codedHoleys T.the-row .code (heres T.the-row ys′))) ∷ ‵ (fbor κ (Held T.the-row (length ys′) b o γ)) ∷ ‵ (flft κ q) ∷ tokens ∷ ‵ (finally u32 (x₁ .name) zs₁) ∷ ‵ (finally u32 (x₂ .name) zs₂) ∷ [])) (Post (valN (r .notice)))
+      → ent 𝓤 (⋆ 𝓤 H A (‵ (fobs γ (codedHoleys T.the-row .code (heres T.the-row ys′))) ∷ ‵ (fbor κ (Held T.the-row (length ys′) b o γ)) ∷ ‵ (flft κ q) ∷ tokens ∷ ‵ (finally u32 (x₁ .name) zs₁) ∷ ‵ (finally u32 (x₂ .name) zs₂) ∷ [])) (Post (notice-val (r .notice)))
   exits ys′ len r v zs₁ zs₂ is e e₁ e₂ =
       qed W (‵ (fobs γ (codedHoleys T.the-row .code (heres T.the-row ys′))) ∷ ‵ (fbor κ (Held T.the-row (length ys′) b o γ)) ∷ ‵ (flft κ q) ∷ tokens ∷ ‵ (finally u32 (x₁ .name) zs₁) ∷ ‵ (finally u32 (x₂ .name) zs₂) ∷ []) ∵
-      suffices ! _ (ends-at 𝓤 H A f.ended stayed (f.clauses 𝓤 H A at-mem run) W (((κ, (κ₁, (κ₂, tt))), (q, (q₁, (q₂, tt))), tt, x, at), tt) (valN (r .notice)) (r .notice) (ys′, (zs₁, (zs₂, (tt, (tt, tt))))) (len, (e₁, (e₂, (tt, (tt, tt)))))) $ says ! e $
+      suffices ! _ (ends-at 𝓤 H A f.ended stayed (f.clauses 𝓤 H A at-mem run) W (((κ, (κ₁, (κ₂, tt))), (q, (q₁, (q₂, tt))), tt, x, at), tt) (notice-val (r .notice)) (r .notice) (ys′, (zs₁, (zs₂, (tt, (tt, tt))))) (len, (e₁, (e₂, (tt, (tt, tt)))))) $ says ! e $
       move ! (2 ∷ 3 ∷ []) $ join ! $ frame ! $ fjoin ! $ pureI ! (at-slice T.the-row (bk ys′) (s₀ ∷ [])) (tt, (tt, tt)) (ap (λ (m : ℕ). sliceVal (b, o) m ∷ []) (sym len), subst (Room T.the-row) (sym len) room₀) $ fjoin ! $
       nothing ! $ owned ! u32 (Is u32) (uint-makes 𝓤 H A W w32) t _ t-is $ fjoin ! $ owned ! u32 (Is u32) (uint-makes 𝓤 H A W w32) i _ i-is $ fjoin ! $ move ! (3 ∷ 0 ∷ []) $ fjoin ! $ move ! (2 ∷ 0 ∷ []) $ fjoin ! $ move ! (1 ∷ 0 ∷ []) $ fjoin ! $ frame ! $
-      owned ! N.the-row (Is N.the-row) (LL.makes N.the-type N′.the-plain 𝓤 H A) (r .notice) _ (is-answer r v is) $ done !
+      owned ! N.the-row (Is N.the-row) (LL.makes N.the-type N′.the-plain 𝓤 H A) (r .notice) _ (settled-notice r v is) $ done !
 
   module _ (C : Calls 𝓤 H) (Λ : Loops 𝓤 H) (fm : FmC 𝓤 H (W .laws) C) (known : Triple 𝓤 (C #step) (Step 𝓤 H A at-mem run)) (known-number : Triple 𝓤 (C #number) (Number 𝓤 H A at-mem run)) (known-no : Triple 𝓤 (C #no) (No 𝓤 H A at-mem run)) where
     walk : ent 𝓤 (onEntry 𝓤 H A f.signature (κ, (κ₁, (κ₂, tt))) (q, (q₁, (q₂, tt))) x at) (WpFn 𝓤 H C Λ code.function (s₀ ∷ s₁ ∷ s₂ ∷ vint w32 i ∷ vint w32 t ∷ []) Post)
@@ -250,77 +241,80 @@ module _ {M : Type 1} (𝓤 : URA M) (H : Heap 𝓤) (A : Atoms 𝓤) (W : Given
         move ! (2 ∷ 3 ∷ 4 ∷ 5 ∷ 1 ∷ 0 ∷ []) $
         -- [obs; borrow; token; tokens; own1; own2]
         enter ! C Λ code.function (s₀ ∷ s₁ ∷ s₂ ∷ vint w32 i ∷ vint w32 t ∷ []) _ $
-        alloc1 ! (λ l₀. alloc1 ! (λ l₁. alloc1 ! (λ l₂. alloc1 ! (λ l₃. alloc1 ! (λ l₄. alloc1 ! (λ l₅. alloc1 ! (λ l₆. alloc1 ! (λ l₇. alloc1 ! (λ l₈. alloc1 ! (λ l₉. alloc1 ! (λ l₁₀. alloc1 ! (λ l₁₁. alloc1 ! (λ l₁₂. alloc1 ! (λ l₁₃. alloc1 ! (λ l₁₄. alloc1 ! (λ l₁₅. alloc1 ! (λ l₁₆. alloc1 ! (λ l₁₇. alloc1 ! (λ l₁₈. alloc1 ! (λ l₁₉. alloc1 ! (λ l₂₀.
-        alloc0 ! $ params1 ! $
-        pass1 ! (init ! 38 refl (tt, (tt, (record { fits = room₀ .0 }, tt)))) $
-        pass1 ! (init ! 36 refl (tt, (tt, (record { fits = room₁ .0 }, tt)))) $
-        pass1 ! (init ! 34 refl (tt, (tt, (record { fits = room₂ .0 }, tt)))) $
-        pass1 ! (init ! 32 refl (tt, record { fits = i-is .1 })) $
-        pass1 ! (init ! 30 refl (tt, record { fits = t-is .1 })) $
+        opens-all ! (λ l₀ l₁ l₂ l₃ l₄ l₅ l₆ l₇ l₈ l₉ l₁₀ l₁₁ l₁₂ l₁₃ l₁₄ l₁₅ l₁₆ l₁₇ l₁₈ l₁₉ l₂₀.
+        params1 ! $
+        pass1 ! (init ! 1 refl (tt, (tt, (record { fits = room₀ .0 }, tt)))) $
+        pass1 ! (init ! 2 refl (tt, (tt, (record { fits = room₁ .0 }, tt)))) $
+        pass1 ! (init ! 3 refl (tt, (tt, (record { fits = room₂ .0 }, tt)))) $
+        pass1 ! (init ! 4 refl (tt, record { fits = i-is .1 })) $
+        pass1 ! (init ! 5 refl (tt, record { fits = t-is .1 })) $
         pass0 ! $
-        assigns ! (un ! (load ! (from ! (stop !)) (look ! 32 refl)) (record { fits = i-wide .1 })) (from ! (stop !)) (init ! 28 refl (tt, record { fits = i-wide .1 })) $
-        assigns ! (of-opd ! (load ! (from ! (fld ! refl (stop !))) (look-in ! 38 (sub ! 1 refl (whole !))))) (from ! (stop !)) (init ! 20 refl (tt, record { fits = room₀ .0 })) $
-        assigns ! (of-opd ! (load ! (from ! (fld ! refl (stop !))) (look-in ! 36 (sub ! 1 refl (whole !))))) (from ! (stop !)) (init ! 18 refl (tt, record { fits = room₁ .0 })) $
-        assigns ! (of-opd ! (load ! (from ! (fld ! refl (stop !))) (look-in ! 34 (sub ! 1 refl (whole !))))) (from ! (stop !)) (init ! 16 refl (tt, record { fits = room₂ .0 })) $
+        assigns ! (un ! (load ! (from ! (stop !)) (look ! 4 refl)) (record { fits = i-wide .1 })) (from ! (stop !)) (init ! 6 refl (tt, record { fits = i-wide .1 })) $
+        assigns ! (of-opd ! (load ! (from ! (fld ! {d = 8} refl (stop !))) (look-in ! 1 (sub ! 1 {d = 8} refl (whole !))))) (from ! (stop !)) (init ! 10 refl (tt, record { fits = room₀ .0 })) $
+        assigns ! (of-opd ! (load ! (from ! (fld ! {d = 8} refl (stop !))) (look-in ! 2 (sub ! 1 {d = 8} refl (whole !))))) (from ! (stop !)) (init ! 11 refl (tt, record { fits = room₁ .0 })) $
+        assigns ! (of-opd ! (load ! (from ! (fld ! {d = 8} refl (stop !))) (look-in ! 3 (sub ! 1 {d = 8} refl (whole !))))) (from ! (stop !)) (init ! 12 refl (tt, record { fits = room₂ .0 })) $
         use0 W (raw (Number 𝓤 H A at-mem run .pre to-number)) (goes-number) $
-        calls-at ! fm (Number 𝓤 H A at-mem run) known-number to-number (and-then ! (load ! (from ! (stop !)) (look ! 21 refl)) (and-then ! (load ! (from ! (stop !)) (look ! 19 refl)) (and-then ! (load ! (from ! (stop !)) (look ! 17 refl)) (and-then ! (load ! (from ! (stop !)) (look ! 29 refl)) (no-more !))))) (λ u.
+        calls-at ! fm (Number 𝓤 H A at-mem run) known-number to-number (and-then ! (load ! (from ! (stop !)) (look ! 11 refl)) (and-then ! (load ! (from ! (stop !)) (look ! 12 refl)) (and-then ! (load ! (from ! (stop !)) (look ! 13 refl)) (and-then ! (load ! (from ! (stop !)) (look ! 7 refl)) (no-more !))))) (λ u.
         use1 W (later (some (λ (n : ℕ). (‵ ftrue ⊛ ‵ (u32 .own n (u ∷ []))) ⊛ raw (ensured 𝓤 H A nb.ended (nb.clauses 𝓤 H A at-mem run) tt xn tt n)))) (id⊢ 𝓤 _) $
         await ! tt $
         pick ! (λ n.
         split ! $
-        move ! (1 ∷ []) $
-        use1 W (raw (fact 𝓤 (n ≡ callNumber i was))) (said-number n) $
-        heard ! (n ≡ callNumber i was) (λ c.
         split ! $
-        drop ! $
+        move ! (1 ∷ []) $
         peeks ! u32 (Is u32) (shows 𝓤 H A u32) n (u ∷ []) (λ n-is.
         drop ! $
-        land ! (from ! (stop !)) (init ! 26 refl (uint-lawful 𝓤 H A W w32 .typed n _ n-is .0)) $
-        rewrite ! 26 (λ (z : Val). ‵ (fat fullShare (tyInt w32) l₇ 0 z)) (ap only (n-is .0)) refl $
-        assigns ! (bin ! (load ! (from ! (stop !)) (look ! 26 refl)) (lit ! tt) tt) (from ! (stop !)) (init ! 14 refl (tt, tt)) $
-        -- [_20; _20+; _19; _19+; _18; _18+; _17; _17+; _16; _16+; _15; _15+; _14; _14+; _13; _13+; _12; _12+; _11; _11+; _10; _10+; _9; _9+; _8; _8+; _7; _7+; _6; _6+; _5; _5+; _4; _4+; _3; _3+; _2; _2+; _1; _1+; _0; _0+; obs; borrow; token; tokens; own1; own2]
-        guarded ! (load ! (from ! (stop !)) (look ! 14 refl))
+        drop ! $
+        use1 W (raw (fact 𝓤 (n ≡ callNumber i was))) (said-number n) $
+        heard ! (n ≡ callNumber i was) (λ c.
+        land ! (from ! (stop !)) (init ! 7 refl (uint-lawful 𝓤 H A W w32 .typed n _ n-is .0)) $
+        rewrite ! 7 (λ (z : Val). ‵ (fat fullShare (tyInt w32) l₇ 0 z)) (ap only (n-is .0)) refl $
+        assigns ! (bin ! (load ! (from ! (stop !)) (look ! 7 refl)) (lit ! tt) tt) (from ! (stop !)) (init ! 13 refl (tt, tt)) $
+        -- [_0; _1; _2; _3; _4; _5; _6; _7; _8; _9; _10; _11; _12; _13; _14; _15; _16; _17; _18; _19; _20; dies; obs; borrow; token; tokens; own1; own2]
+        guarded ! (load ! (from ! (stop !)) (look ! 13 refl))
         (λ bad.
         use0 W (raw (No 𝓤 H A at-mem run .pre (to-no n))) (goes-no n (refl, n-is .1)) $
-        calls-at ! fm (No 𝓤 H A at-mem run) known-no (to-no n) (and-then ! (load ! (from ! (stop !)) (look ! 27 refl)) (no-more !)) (λ v.
+        calls-at ! fm (No 𝓤 H A at-mem run) known-no (to-no n) (and-then ! (load ! (from ! (stop !)) (look ! 8 refl)) (no-more !)) (λ v.
         use1 W (later (some (λ (r : Notice). (‵ ftrue ⊛ ‵ (N.the-row .own r (v ∷ []))) ⊛ raw (ensured 𝓤 H A no.ended (no.clauses 𝓤 H A at-mem run) tt (n, tt) tt r)))) (id⊢ 𝓤 _) $
         await ! tt $
         pick ! (λ r.
         split ! $
-        move ! (1 ∷ []) $
-        use1 W (raw (fact 𝓤 (r ≡ noNotice n))) (said-no n r) $
-        heard ! (r ≡ noNotice n) (λ z.
         split ! $
-        drop ! $
+        move ! (1 ∷ []) $
         peeks ! N.the-row (Is N.the-row) (shows 𝓤 H A N.the-row) r (v ∷ []) (λ is.
         drop ! $
-        land ! (from ! (stop !)) (init ! 40 refl (LL.lawful N.the-type N′.the-laws 𝓤 H A W .typed r _ is .0)) $
-        returns-within ! Post refl (look ! 40 refl) $
-        forget ! 14 refl $ forget ! 16 refl $ forget ! 18 refl $ forget ! 20 refl $ forget ! 26 refl $ forget ! 28 refl $ forget ! 30 refl $ forget ! 32 refl $ forget ! 34 refl $ forget ! 36 refl $ forget ! 38 refl $ forget ! 40 refl $
-        move ! (40 ∷ 41 ∷ []) $ free1 ! $ move ! (38 ∷ 39 ∷ []) $ free1 ! $ move ! (36 ∷ 37 ∷ []) $ free1 ! $ move ! (34 ∷ 35 ∷ []) $ free1 ! $ move ! (32 ∷ 33 ∷ []) $ free1 ! $ move ! (30 ∷ 31 ∷ []) $ free1 ! $ move ! (28 ∷ 29 ∷ []) $ free1 ! $ move ! (26 ∷ 27 ∷ []) $ free1 ! $ move ! (24 ∷ 25 ∷ []) $ free1 ! $ move ! (22 ∷ 23 ∷ []) $ free1 ! $ move ! (20 ∷ 21 ∷ []) $ free1 ! $ move ! (18 ∷ 19 ∷ []) $ free1 ! $ move ! (16 ∷ 17 ∷ []) $ free1 ! $ move ! (14 ∷ 15 ∷ []) $ free1 ! $ move ! (12 ∷ 13 ∷ []) $ free1 ! $ move ! (10 ∷ 11 ∷ []) $ free1 ! $ move ! (8 ∷ 9 ∷ []) $ free1 ! $ move ! (6 ∷ 7 ∷ []) $ free1 ! $ move ! (4 ∷ 5 ∷ []) $ free1 ! $ move ! (2 ∷ 3 ∷ []) $ free1 ! $ move ! (0 ∷ 1 ∷ []) $ free1 ! $ free0 ! $
+        drop ! $
+        use1 W (raw (fact 𝓤 (r ≡ noNotice n))) (said-no n r) $
+        heard ! (r ≡ noNotice n) (λ z.
+        land ! (from ! (stop !)) (init ! 0 refl (LL.lawful N.the-type N′.the-laws 𝓤 H A W .typed r _ is .0)) $
+        returns-within ! Post refl (look ! 0 refl) $
+        frees-all ! 0 (full _ ∷ full _ ∷ full _ ∷ full _ ∷ full _ ∷ full _ ∷ full _ ∷ full _ ∷ bare ∷ bare ∷ full _ ∷ full _ ∷ full _ ∷ full _ ∷ bare ∷ bare ∷ bare ∷ bare ∷ bare ∷ bare ∷ bare ∷ []) refl $
         keep ! (0 ∷ 1 ∷ 2 ∷ 3 ∷ 4 ∷ 5 ∷ []) $
         by ! (refuses n r v is c bad z))))))
         (λ good.
-        move ! (42 ∷ 43 ∷ 44 ∷ []) $
-        opens-slice ! tt T.the-row ys b o $ elem-out ! T.the-row (Is T.the-row) (shows 𝓤 H A T.the-row) (LL.vals T.the-type T′.the-laws) (LL.tells T.the-type T′.the-laws) fullShare ys i noRecord b o (inside i n was c good .record-of) (λ is-one.
+        move ! (22 ∷ 23 ∷ 24 ∷ []) $
+        opens-slice ! tt T.the-row ys b o $ elem-out ! T.the-row (Is T.the-row) (shows 𝓤 H A T.the-row) record-vals record-tells fullShare ys i noRecord b o (inside i n was c good .record-of) (λ is-one.
         move ! (1 ∷ []) $
         drop ! $
-        -- [cell; others; open; obs; auth; _20; _20+; _19; _19+; _18; _18+; _17; _17+; _16; _16+; _15; _15+; _14; _14+; _13; _13+; _12; _12+; _11; _11+; _10; _10+; _9; _9+; _8; _8+; _7; _7+; _6; _6+; _5; _5+; _4; _4+; _3; _3+; _2; _2+; _1; _1+; _0; _0+; tokens; own1; own2]
-        assigns ! (bin ! (load ! (from ! (stop !)) (look ! 33 refl)) (lit ! tt) (record { fits = element-fits (length ys) (mem T.the-row .size) i (room₀ .1) (inside i n was c good .record-of) })) (from ! (stop !)) (store ! 25 refl (tt, record { fits = element-fits (length ys) (mem T.the-row .size) i (room₀ .1) (inside i n was c good .record-of) })) $
-        assigns ! (bin ! (load ! (from ! (fld ! refl (stop !))) (look-in ! 43 (sub ! 0 refl (whole !)))) (load ! (from ! (stop !)) (look ! 25 refl)) tt) (from ! (stop !)) (init ! 17 refl (tt, tt)) $
-        rewrite ! 17 (λ (k : ℕ). ‵ (fat fullShare tyPtr l₁₄ 0 (vptr b k))) (sym (place-is (mem T.the-row .size) o i)) refl $
-        assigns ! (of-opd ! (load ! (from ! (hop ! (look ! 17 refl) (stop !))) (look-raw ! 0 refl))) (from ! (stop !)) (init ! 15 refl (LL.lawful T.the-type T′.the-laws 𝓤 H A W .typed one _ is-one .0)) $
-        assigns ! (addr ! (from ! (fld ! refl (hop ! (look-in ! 41 (sub ! 0 refl (whole !))) (stop !))))) (from ! (stop !)) (init ! 13 refl (tt, tt)) $
-        assigns ! (agg ! (and-then ! (load ! (from ! (stop !)) (look ! 13 refl)) (and-then ! (load ! (from ! (fld ! refl (stop !))) (look-in ! 41 (sub ! 1 refl (whole !)))) (no-more !)))) (from ! (stop !)) (init ! 11 refl (tt, (tt, (record { fits = room₁ .0 }, tt)))) $
-        assigns ! (addr ! (from ! (fld ! refl (hop ! (look-in ! 39 (sub ! 0 refl (whole !))) (stop !))))) (from ! (stop !)) (init ! 9 refl (tt, tt)) $
-        assigns ! (agg ! (and-then ! (load ! (from ! (stop !)) (look ! 9 refl)) (and-then ! (load ! (from ! (fld ! refl (stop !))) (look-in ! 39 (sub ! 1 refl (whole !)))) (no-more !)))) (from ! (stop !)) (init ! 7 refl (tt, (tt, (record { fits = room₂ .0 }, tt)))) $
-        move ! (47 ∷ 48 ∷ 49 ∷ []) $
-        use3 W (raw (Step 𝓤 H A at-mem run .pre to-step)) (goes-step is-one (inside i n was c good)) $
-        calls-at ! fm (Step 𝓤 H A at-mem run) known to-step (and-then ! (load ! (from ! (stop !)) (look ! 16 refl)) (and-then ! (load ! (from ! (stop !)) (look ! 12 refl)) (and-then ! (load ! (from ! (stop !)) (look ! 8 refl)) (and-then ! (load ! (from ! (stop !)) (look ! 34 refl)) (and-then ! (load ! (from ! (stop !)) (look ! 36 refl)) (no-more !)))))) (λ v.
+        -- [cell; others; open; obs; auth; _0; _1; _2; _3; _4; _5; _6; _7; _8; _9; _10; _11; _12; _13; _14; _15; _16; _17; _18; _19; _20; dies; tokens; own1; own2]
+        assigns ! (bin ! (load ! (from ! (stop !)) (look ! 11 refl)) (lit ! tt) (record { fits = element-fits (length ys) (mem T.the-row .size) i (room₀ .1) (inside i n was c good .record-of) })) (from ! (stop !)) (store ! 15 refl (tt, record { fits = element-fits (length ys) (mem T.the-row .size) i (room₀ .1) (inside i n was c good .record-of) })) $
+        assigns ! (bin ! (load ! (from ! (fld ! {d = 0} refl (stop !))) (look-in ! 6 (sub ! 0 {d = 0} refl (whole !)))) (load ! (from ! (stop !)) (look ! 15 refl)) tt) (from ! (stop !)) (init ! 19 refl (tt, tt)) $
+        rewrite ! 19 (λ (k : ℕ). ‵ (fat fullShare tyPtr l₁₄ 0 (vptr b k))) (sym (place-is (mem T.the-row .size) o i)) refl $
+        assigns ! (of-opd ! (load ! (from ! (hop ! (look ! 19 refl) (stop !))) (look-raw ! 0 refl))) (from ! (stop !)) (init ! 20 refl (record-typed 𝓤 H A W one is-one)) $
+        assigns ! (addr ! (from ! (fld ! {d = 0} refl (hop ! (look-in ! 7 (sub ! 0 {d = 0} refl (whole !))) (stop !))))) (from ! (stop !)) (init ! 21 refl (tt, tt)) $
+        assigns ! (agg ! (and-then ! (load ! (from ! (stop !)) (look ! 21 refl)) (and-then ! (load ! (from ! (fld ! {d = 8} refl (stop !))) (look-in ! 7 (sub ! 1 {d = 8} refl (whole !)))) (no-more !)))) (from ! (stop !)) (init ! 22 refl (tt, (tt, (record { fits = room₁ .0 }, tt)))) $
+        assigns ! (addr ! (from ! (fld ! {d = 0} refl (hop ! (look-in ! 8 (sub ! 0 {d = 0} refl (whole !))) (stop !))))) (from ! (stop !)) (init ! 23 refl (tt, tt)) $
+        assigns ! (agg ! (and-then ! (load ! (from ! (stop !)) (look ! 23 refl)) (and-then ! (load ! (from ! (fld ! {d = 8} refl (stop !))) (look-in ! 8 (sub ! 1 {d = 8} refl (whole !)))) (no-more !)))) (from ! (stop !)) (init ! 24 refl (tt, (tt, (record { fits = room₂ .0 }, tt)))) $
+        move ! (27 ∷ 28 ∷ 29 ∷ []) $
+        use3 W (raw (Step 𝓤 H A at-mem run .pre to-step)) (goes-step is-one) $
+        calls-at ! fm (Step 𝓤 H A at-mem run) known to-step (and-then ! (load ! (from ! (stop !)) (look ! 21 refl)) (and-then ! (load ! (from ! (stop !)) (look ! 23 refl)) (and-then ! (load ! (from ! (stop !)) (look ! 25 refl)) (and-then ! (load ! (from ! (stop !)) (look ! 10 refl)) (and-then ! (load ! (from ! (stop !)) (look ! 11 refl)) (no-more !)))))) (λ v.
         use1 W (later (some (λ (r : Settled). (tokens ⊛ ‵ (D.the-row .own r (v ∷ []))) ⊛ raw (ensured 𝓤 H A g.ended (g.clauses 𝓤 H A at-mem run) (κ₁, (κ₂, tt)) x′ tt r)))) (id⊢ 𝓤 _) $
         await ! tt $
         pick ! (λ r.
         split ! $
+        split ! $
+        move ! (1 ∷ []) $
+        peeks ! D.the-row (Is D.the-row) (shows 𝓤 H A D.the-row) r (v ∷ []) (λ is.
+        drop ! $
         move ! (1 ∷ []) $
         use1 W (some (λ (zs : Ends). ‵ (lasts g.ended (κ₁, (κ₂, tt)) x′ zs) ⊛ raw (fact 𝓤 (SettledAt i t one (x₁ .now) (x₂ .now) r (zs .1 .0) (zs .1 .1 .0))))) (id⊢ 𝓤 _) $
         pick ! (λ zs.
@@ -340,41 +334,36 @@ module _ {M : Type 1} (𝓤 : URA M) (H : Heap 𝓤) (A : Atoms 𝓤) (W : Given
         feqL ! (λ e₂.
         move ! (1 ∷ []) $
         drop ! $
-        move ! (2 ∷ []) $
-        split ! $
-        move ! (1 ∷ []) $
-        peeks ! D.the-row (Is D.the-row) (shows 𝓤 H A D.the-row) r (v ∷ []) (λ is.
-        drop ! $
-        land ! (from ! (stop !)) (init ! 32 refl (LL.lawful D.the-type D′.the-laws 𝓤 H A W .typed r _ is .0)) $
-        rewrite ! 32 (λ (u : Val). ‵ (fat fullShare D′.mir l₈ 0 u)) (ap only (LL.tells D.the-type D′.the-laws r (v ∷ []) is)) refl $
-        -- [tokens; final2; final1; cell; others; open; obs; auth; _20; _20+; _19; _19+; _18; _18+; _17; _17+; _16; _16+; _15; _15+; _14; _14+; _13; _13+; _12; _12+; _11; _11+; _10; _10+; _9; _9+; _8; _8+; _7; _7+; _6; _6+; _5; _5+; _4; _4+; _3; _3+; _2; _2+; _1; _1+; _0; _0+]
-        assigns ! (of-opd ! (load ! (from ! (fld ! refl (stop !))) (look-in ! 32 (sub ! 0 refl (whole !))))) (from ! (stop !)) (init ! 30 refl (LL.lawful N.the-type N′.the-laws 𝓤 H A W .typed (r .notice) _ (is-answer r v is) .0)) $
-        assigns ! (bin ! (load ! (from ! (fld ! refl (fld ! refl (stop !)))) (look-in ! 30 (sub ! 0 refl (sub ! 0 refl (whole !))))) (lit ! tt) tt) (from ! (stop !)) (store ! 22 refl (tt, tt)) $
-        guarded ! (load ! (from ! (stop !)) (look ! 22 refl))
+        land ! (from ! (stop !)) (init ! 16 refl (settled-typed 𝓤 H A W r v is)) $
+        rewrite ! 16 (λ (u : Val). ‵ (fat fullShare D′.mir l₈ 0 u)) (settled-val r v is) refl $
+        -- [final2; final1; tokens; cell; others; open; obs; auth; _0; _1; _2; _3; _4; _5; _6; _7; _8; _9; _10; _11; _12; _13; _14; _15; _16; _17; _18; _19; _20; dies]
+        assigns ! (of-opd ! (load ! (from ! (fld ! settled-at-0 (stop !))) (look-in ! 16 (sub ! 0 settled-at-0 (whole !))))) (from ! (stop !)) (init ! 17 refl (notice-typed 𝓤 H A W (r .notice) (settled-notice r v is))) $
+        rewrite ! 17 (λ (u : Val). ‵ (fat fullShare N′.mir l₉ 0 u)) (notice-number (r .notice)) refl $
+        assigns ! (bin ! (load ! (from ! (fld ! notice-at-0 (fld ! answer-at-0 (stop !)))) (look-in ! 17 (sub ! 0 answer-at-0 (sub ! 0 notice-at-0 (whole !))))) (lit ! tt) tt) (from ! (stop !)) (store ! 21 refl (tt, tt)) $
+        rewrite ! 17 (λ (u : Val). ‵ (fat fullShare N′.mir l₉ 0 u)) (sym (notice-number (r .notice))) refl $
+        guarded ! (load ! (from ! (stop !)) (look ! 21 refl))
         (λ refused.
-        assigns ! (of-opd ! (load ! (from ! (stop !)) (look ! 30 refl))) (from ! (stop !)) (init ! 48 refl (LL.lawful N.the-type N′.the-laws 𝓤 H A W .typed (r .notice) _ (is-answer r v is) .0)) $
+        assigns ! (of-opd ! (load ! (from ! (stop !)) (look ! 17 refl))) (from ! (stop !)) (init ! 8 refl (notice-typed 𝓤 H A W (r .notice) (settled-notice r v is))) $
         owned ! T.the-row (Is T.the-row) (LL.makes T.the-type T′.the-plain 𝓤 H A) one _ is-one $
         move ! (4 ∷ 0 ∷ 5 ∷ 6 ∷ 7 ∷ 8 ∷ []) $
-        elem-back ! T.the-row fullShare ys i noRecord (valT one ∷ []) b o (inside i n was c good .record-of) $ closes-slice ! tt T.the-row ys ys refl b o $
-        returns-within ! Post refl (look ! 46 refl) $
-        forget ! 8 refl $ forget ! 10 refl $ forget ! 12 refl $ forget ! 14 refl $ forget ! 16 refl $ forget ! 18 refl $ forget ! 20 refl $ forget ! 22 refl $ forget ! 24 refl $ forget ! 26 refl $ forget ! 28 refl $ forget ! 30 refl $ forget ! 32 refl $ forget ! 34 refl $ forget ! 36 refl $ forget ! 38 refl $ forget ! 40 refl $ forget ! 42 refl $ forget ! 44 refl $ forget ! 46 refl $
-        move ! (46 ∷ 47 ∷ []) $ free1 ! $ move ! (44 ∷ 45 ∷ []) $ free1 ! $ move ! (42 ∷ 43 ∷ []) $ free1 ! $ move ! (40 ∷ 41 ∷ []) $ free1 ! $ move ! (38 ∷ 39 ∷ []) $ free1 ! $ move ! (36 ∷ 37 ∷ []) $ free1 ! $ move ! (34 ∷ 35 ∷ []) $ free1 ! $ move ! (32 ∷ 33 ∷ []) $ free1 ! $ move ! (30 ∷ 31 ∷ []) $ free1 ! $ move ! (28 ∷ 29 ∷ []) $ free1 ! $ move ! (26 ∷ 27 ∷ []) $ free1 ! $ move ! (24 ∷ 25 ∷ []) $ free1 ! $ move ! (22 ∷ 23 ∷ []) $ free1 ! $ move ! (20 ∷ 21 ∷ []) $ free1 ! $ move ! (18 ∷ 19 ∷ []) $ free1 ! $ move ! (16 ∷ 17 ∷ []) $ free1 ! $ move ! (14 ∷ 15 ∷ []) $ free1 ! $ move ! (12 ∷ 13 ∷ []) $ free1 ! $ move ! (10 ∷ 11 ∷ []) $ free1 ! $ move ! (8 ∷ 9 ∷ []) $ free1 ! $ move ! (6 ∷ 7 ∷ []) $ free1 ! $ free0 ! $
-        keep ! (0 ∷ 1 ∷ 2 ∷ 3 ∷ 5 ∷ 4 ∷ []) $
+        elem-back ! T.the-row fullShare ys i noRecord (record-val one ∷ []) b o (inside i n was c good .record-of) $ closes-slice ! tt T.the-row ys ys refl b o $
+        returns-within ! Post refl (look ! 6 refl) $
+        frees-all ! 6 (full _ ∷ full _ ∷ full _ ∷ full _ ∷ full _ ∷ full _ ∷ full _ ∷ full _ ∷ full _ ∷ full _ ∷ full _ ∷ full _ ∷ full _ ∷ full _ ∷ full _ ∷ full _ ∷ full _ ∷ full _ ∷ full _ ∷ full _ ∷ bare ∷ []) refl $
+        keep ! (0 ∷ 1 ∷ 2 ∷ 5 ∷ 4 ∷ 3 ∷ []) $
         by ! (exits ys refl r v (zs .1 .0) (zs .1 .1 .0) is (kept-in i n (settling t) noNotice was (r .notice) (λ a. a .answer .number) (settled-unchanged t) c good (r .next) (zs .1 .0) (zs .1 .1 .0) e refused) e₁ e₂))
         (λ accepted.
-        assigns ! (bin ! (load ! (from ! (stop !)) (look ! 36 refl)) (lit ! tt) (record { fits = element-fits (length ys) (mem T.the-row .size) i (room₀ .1) (inside i n was c good .record-of) })) (from ! (stop !)) (store ! 26 refl (tt, record { fits = element-fits (length ys) (mem T.the-row .size) i (room₀ .1) (inside i n was c good .record-of) })) $
-        assigns ! (bin ! (load ! (from ! (fld ! refl (stop !))) (look-in ! 46 (sub ! 0 refl (whole !)))) (load ! (from ! (stop !)) (look ! 26 refl)) tt) (from ! (stop !)) (init ! 8 refl (tt, tt)) $
-        rewrite ! 8 (λ (k : ℕ). ‵ (fat fullShare tyPtr l₂₀ 0 (vptr b k))) (sym (place-is (mem T.the-row .size) o i)) refl $
-        assigns ! (of-opd ! (load ! (from ! (fld ! refl (stop !))) (look-in ! 32 (sub ! 1 refl (whole !))))) (from ! (hop ! (look ! 8 refl) (stop !))) (store-raw ! 3 refl (LL.lawful T.the-type T′.the-laws 𝓤 H A W .typed (r .next) _ (is-next r v is) .0)) $
-        assigns ! (of-opd ! (load ! (from ! (stop !)) (look ! 30 refl))) (from ! (stop !)) (init ! 48 refl (LL.lawful N.the-type N′.the-laws 𝓤 H A W .typed (r .notice) _ (is-answer r v is) .0)) $
-        owned ! T.the-row (Is T.the-row) (LL.makes T.the-type T′.the-plain 𝓤 H A) (r .next) _ (is-next r v is) $
+        assigns ! (bin ! (load ! (from ! (stop !)) (look ! 14 refl)) (lit ! tt) (record { fits = element-fits (length ys) (mem T.the-row .size) i (room₀ .1) (inside i n was c good .record-of) })) (from ! (stop !)) (store ! 19 refl (tt, record { fits = element-fits (length ys) (mem T.the-row .size) i (room₀ .1) (inside i n was c good .record-of) })) $
+        assigns ! (bin ! (load ! (from ! (fld ! {d = 0} refl (stop !))) (look-in ! 9 (sub ! 0 {d = 0} refl (whole !)))) (load ! (from ! (stop !)) (look ! 19 refl)) tt) (from ! (stop !)) (init ! 28 refl (tt, tt)) $
+        rewrite ! 28 (λ (k : ℕ). ‵ (fat fullShare tyPtr l₂₀ 0 (vptr b k))) (sym (place-is (mem T.the-row .size) o i)) refl $
+        assigns ! (of-opd ! (load ! (from ! (fld ! settled-at-1 (stop !))) (look-in ! 16 (sub ! 1 settled-at-1 (whole !))))) (from ! (hop ! (look ! 28 refl) (stop !))) (store-raw ! 3 refl (record-typed 𝓤 H A W (r .next) (settled-next r v is))) $
+        assigns ! (of-opd ! (load ! (from ! (stop !)) (look ! 17 refl))) (from ! (stop !)) (init ! 8 refl (notice-typed 𝓤 H A W (r .notice) (settled-notice r v is))) $
+        owned ! T.the-row (Is T.the-row) (LL.makes T.the-type T′.the-plain 𝓤 H A) (r .next) _ (settled-next r v is) $
         move ! (4 ∷ 0 ∷ 5 ∷ 6 ∷ 7 ∷ 8 ∷ []) $
-        elem-put ! T.the-row fullShare ys i (r .next) (valT (r .next) ∷ []) b o (inside i n was c good .record-of) $ closes-slice ! tt T.the-row ys (set ys i (r .next)) (length-set ys i (r .next)) b o $
-        returns ! (look ! 46 refl) $
-        forget ! 6 refl $ forget ! 8 refl $ forget ! 10 refl $ forget ! 12 refl $ forget ! 14 refl $ forget ! 16 refl $ forget ! 18 refl $ forget ! 20 refl $ forget ! 22 refl $ forget ! 24 refl $ forget ! 26 refl $ forget ! 28 refl $ forget ! 30 refl $ forget ! 32 refl $ forget ! 34 refl $ forget ! 36 refl $ forget ! 38 refl $ forget ! 40 refl $ forget ! 42 refl $ forget ! 44 refl $ forget ! 46 refl $
-        move ! (46 ∷ 47 ∷ []) $ free1 ! $ move ! (44 ∷ 45 ∷ []) $ free1 ! $ move ! (42 ∷ 43 ∷ []) $ free1 ! $ move ! (40 ∷ 41 ∷ []) $ free1 ! $ move ! (38 ∷ 39 ∷ []) $ free1 ! $ move ! (36 ∷ 37 ∷ []) $ free1 ! $ move ! (34 ∷ 35 ∷ []) $ free1 ! $ move ! (32 ∷ 33 ∷ []) $ free1 ! $ move ! (30 ∷ 31 ∷ []) $ free1 ! $ move ! (28 ∷ 29 ∷ []) $ free1 ! $ move ! (26 ∷ 27 ∷ []) $ free1 ! $ move ! (24 ∷ 25 ∷ []) $ free1 ! $ move ! (22 ∷ 23 ∷ []) $ free1 ! $ move ! (20 ∷ 21 ∷ []) $ free1 ! $ move ! (18 ∷ 19 ∷ []) $ free1 ! $ move ! (16 ∷ 17 ∷ []) $ free1 ! $ move ! (14 ∷ 15 ∷ []) $ free1 ! $ move ! (12 ∷ 13 ∷ []) $ free1 ! $ move ! (10 ∷ 11 ∷ []) $ free1 ! $ move ! (8 ∷ 9 ∷ []) $ free1 ! $ move ! (6 ∷ 7 ∷ []) $ free1 ! $ free0 ! $
-        keep ! (0 ∷ 1 ∷ 2 ∷ 3 ∷ 5 ∷ 4 ∷ []) $
-        by ! (exits (set ys i (r .next)) (length-set ys i (r .next)) r v (zs .1 .0) (zs .1 .1 .0) is (done-in i n (settling t) noNotice was (r .notice) c good (r .next) (zs .1 .0) (zs .1 .1 .0) e) e₁ e₂))))))))))))))))))))))))))))))))))))
+        elem-put ! T.the-row fullShare ys i (r .next) (record-val (r .next) ∷ []) b o (inside i n was c good .record-of) $ closes-slice ! tt T.the-row ys (set ys i (r .next)) (length-set ys i (r .next)) b o $
+        returns ! (look ! 6 refl) $
+        frees-all ! 6 (full _ ∷ full _ ∷ full _ ∷ full _ ∷ full _ ∷ full _ ∷ full _ ∷ full _ ∷ full _ ∷ full _ ∷ full _ ∷ full _ ∷ full _ ∷ full _ ∷ full _ ∷ full _ ∷ full _ ∷ full _ ∷ full _ ∷ full _ ∷ full _ ∷ []) refl $
+        keep ! (0 ∷ 1 ∷ 2 ∷ 5 ∷ 4 ∷ 3 ∷ []) $
+        by ! (exits (set ys i (r .next)) (length-set ys i (r .next)) r v (zs .1 .0) (zs .1 .1 .0) is (done-in i n (settling t) noNotice was (r .notice) c good (r .next) (zs .1 .0) (zs .1 .1 .0) e) e₁ e₂))))))))))))))))
 
 -- ------------------------------------------------------------------ the statement
 
@@ -398,6 +387,6 @@ settle-spec 𝓤 H 𝓜 𝓖 𝓡 =
     entered 𝓤 H (tripleOf 𝓤 H (𝓖 .A) f.signature (f.spec 𝓤 H (𝓖 .A) (𝓜 .mem) (𝓡 .run)))
     (tables 𝓤 H 𝓜 𝓡 code.env .C) (tables 𝓤 H 𝓜 𝓡 code.env .Λ) #fn code.function (code.unfolded 𝓤 H 𝓜 𝓡)
     (meets 𝓤 H (𝓖 .A) (givenOf 𝓤 H 𝓜 𝓖) (𝓜 .mem) (𝓡 .run) (tablesOf 𝓤 H 𝓜 (tables 𝓤 H 𝓜 𝓡 code.env))
-    (cited 𝓤 H (Step 𝓤 H (𝓖 .A) (𝓜 .mem) (𝓡 .run)) 𝓜 𝓡 code.env #step g-def.routine code.calls-book·step·settled-at (g-thm.met 𝓤 H 𝓜 𝓖 𝓡))
-    (cited 𝓤 H (Number 𝓤 H (𝓖 .A) (𝓜 .mem) (𝓡 .run)) 𝓜 𝓡 code.env #number nb-def.routine code.calls-book·step·call-number (nb-thm.met 𝓤 H 𝓜 𝓖 𝓡))
-    (cited 𝓤 H (No 𝓤 H (𝓖 .A) (𝓜 .mem) (𝓡 .run)) 𝓜 𝓡 code.env #no no-def.routine code.calls-book·step·zero-notice (no-thm.met 𝓤 H 𝓜 𝓖 𝓡)))
+    (cited 𝓤 H (Step 𝓤 H (𝓖 .A) (𝓜 .mem) (𝓡 .run)) 𝓜 𝓡 code.env #step g-def.routine code.calls-calls·settled-at (g-thm.met 𝓤 H 𝓜 𝓖 𝓡))
+    (cited 𝓤 H (Number 𝓤 H (𝓖 .A) (𝓜 .mem) (𝓡 .run)) 𝓜 𝓡 code.env #number nb-def.routine code.calls-calls·call-number (nb-thm.met 𝓤 H 𝓜 𝓖 𝓡))
+    (cited 𝓤 H (No 𝓤 H (𝓖 .A) (𝓜 .mem) (𝓡 .run)) 𝓜 𝓡 code.env #no no-def.routine code.calls-calls·zero-notice (no-thm.met 𝓤 H 𝓜 𝓖 𝓡)))

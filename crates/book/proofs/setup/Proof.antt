@@ -1,4 +1,4 @@
--- `book::setup` meets its contract: a walk of its MIR, written by tools/walks/setup.py. `judged` is called; then, where its number is 0, each slice is lent on for good, the book to `fill` and the arrays to `wipe`.
+-- `book::setup` meets its contract: a walk of its MIR, written by tools/walks/setup.py. `setup_answer` is called; then, where its number is 0, each slice is lent on for good, the book to `fill` and the arrays to `wipe`.
 -- All that it knows of the callees is that they meet their contracts. No borrow is opened, and no field of `Record` is named.
 -- Assumes nothing.
 use mathlib.Core.Path.{_≡_, refl, sym, _∙_, ap, subst}
@@ -20,7 +20,7 @@ use ghost.Atoms.{Atoms, sem}
 use contract.Monad.{Fun, fact}
 use contract.Running.{givenOf, tables, tablesOf}
 use types.Kit.{Given, Item, ‵, raw, some, later, _⊛_, ⋆, _$_, _∵_, !, qed, by, move, keep, drop, use1, use2, use3, split, join, pick, rewrite, fsplit, fjoin, feqL, suffices, frame, await, done}
-use types.Run.{look, init, store, forget, stop, hop, fld, from, load, lit, addr, bin, of-opd, and-then, no-more, assigns, land, returns-within, returns, enter, alloc1, alloc0, params1, pass1, pass0, free1, free0}
+use types.Run.{look, init, store, stop, hop, fld, from, load, lit, addr, bin, of-opd, and-then, no-more, assigns, land, returns-within, returns, enter, params1, pass1, pass0}
 use types.Part.{agg, whole, sub, look-in}
 use sound.WpLaws.{FmC, fmOf, WpFn-mono}
 use denote.RattleType.{owns}
@@ -47,22 +47,27 @@ use Rattle.rules.proofs.Answer.Laws as N′
 use Rattle.stock.specs.declared.Record.{Record}
 use Rattle.stock.proofs.Record as R
 use Rattle.book.specs.Lent.{Lent, lent}
-use Rattle.book.specs.Setup.{setupsOf, recordOf, numberOf, SetsUp}
-use Rattle.book.proofs.Setups.{fours, refused, done as set-up}
+use Rattle.calls.specs.Setup.{setupsOf, recordOf}
+use Rattle.book.specs.Setup.{numberOf, SetsUp}
+use Rattle.calls.proofs.Setups.{fours}
+use Rattle.book.proofs.Setups.{refused, done as set-up}
 use Rattle.book.proofs.Guarded.{guarded}
+use Rattle.book.proofs.Locals.{opens-all, frees-all}
+use Rattle.book.proofs.Locals.Left.{bare, full}
+use Rattle.book.proofs.Values.{answer-at-0}
 use Rattle.book.proofs.Walking.{is-unit, gives}
-use Rattle.book.proofs.fresh.judged as j
-use Rattle.book.proofs.fresh.judged.Symbol as j-def
-use Rattle.book.proofs.fresh.judged.Symbol.{name as #judged}
-use Rattle.book.proofs.fresh.judged.Met as j-thm
+use Rattle.calls.proofs.setup_answer as j
+use Rattle.calls.proofs.setup_answer.Symbol as j-def
+use Rattle.calls.proofs.setup_answer.Symbol.{name as #judged}
+use Rattle.calls.proofs.setup_answer.Met as j-thm
 use Rattle.book.proofs.fresh.fill as fl
 use Rattle.book.proofs.fresh.fill.Symbol as fl-def
 use Rattle.book.proofs.fresh.fill.Symbol.{name as #fill}
 use Rattle.book.proofs.fresh.fill.Met as fl-thm
-use Rattle.book.proofs.fresh.wipe as wp
-use Rattle.book.proofs.fresh.wipe.Symbol as wp-def
-use Rattle.book.proofs.fresh.wipe.Symbol.{name as #wipe}
-use Rattle.book.proofs.fresh.wipe.Met as wp-thm
+use Rattle.calls.proofs.wipe as wp
+use Rattle.calls.proofs.wipe.Symbol as wp-def
+use Rattle.calls.proofs.wipe.Symbol.{name as #wipe}
+use Rattle.calls.proofs.wipe.Met as wp-thm
 use Rattle.book.proofs.setup.Key.{name as #setup}
 use Rattle.book.proofs.setup as f
 use Rattle.book.proofs.setup.Statement as stated
@@ -243,26 +248,26 @@ module _ {M : Type 1} (𝓤 : URA M) (H : Heap 𝓤) (A : Atoms 𝓤) (W : Given
         move ! (1 ∷ []) $
         drop ! $
         enter ! C Λ code.function (s₀ ∷ s₁ ∷ s₂ ∷ vint w32 end ∷ s₃ ∷ []) _ $
-        alloc1 ! (λ l₀. alloc1 ! (λ l₁. alloc1 ! (λ l₂. alloc1 ! (λ l₃. alloc1 ! (λ l₄. alloc1 ! (λ l₅. alloc1 ! (λ l₆. alloc1 ! (λ l₇. alloc1 ! (λ l₈. alloc1 ! (λ l₉. alloc1 ! (λ l₁₀. alloc1 ! (λ l₁₁. alloc1 ! (λ l₁₂. alloc1 ! (λ l₁₃. alloc1 ! (λ l₁₄. alloc1 ! (λ l₁₅. alloc1 ! (λ l₁₆. alloc1 ! (λ l₁₇.
-        alloc0 ! $ params1 ! $
-        pass1 ! (init ! 32 refl (tt, (tt, (record { fits = room₀ .0 }, tt)))) $
-        pass1 ! (init ! 30 refl (tt, (tt, (record { fits = room₁ .0 }, tt)))) $
-        pass1 ! (init ! 28 refl (tt, (tt, (record { fits = room₂ .0 }, tt)))) $
-        pass1 ! (init ! 26 refl (tt, record { fits = end-fits })) $
-        pass1 ! (init ! 24 refl (tt, (tt, (record { fits = room₃ .0 }, tt)))) $
+        opens-all ! (λ l₀ l₁ l₂ l₃ l₄ l₅ l₆ l₇ l₈ l₉ l₁₀ l₁₁ l₁₂ l₁₃ l₁₄ l₁₅ l₁₆ l₁₇.
+        params1 ! $
+        pass1 ! (init ! 1 refl (tt, (tt, (record { fits = room₀ .0 }, tt)))) $
+        pass1 ! (init ! 2 refl (tt, (tt, (record { fits = room₁ .0 }, tt)))) $
+        pass1 ! (init ! 3 refl (tt, (tt, (record { fits = room₂ .0 }, tt)))) $
+        pass1 ! (init ! 4 refl (tt, record { fits = end-fits })) $
+        pass1 ! (init ! 5 refl (tt, (tt, (record { fits = room₃ .0 }, tt)))) $
         pass0 ! $
-        assigns ! (of-opd ! (load ! (from ! (fld ! refl (stop !))) (look-in ! 32 (sub ! 1 refl (whole !))))) (from ! (stop !)) (init ! 20 refl (tt, record { fits = room₀ .0 })) $
-        assigns ! (of-opd ! (load ! (from ! (fld ! refl (stop !))) (look-in ! 30 (sub ! 1 refl (whole !))))) (from ! (stop !)) (init ! 18 refl (tt, record { fits = room₁ .0 })) $
-        assigns ! (of-opd ! (load ! (from ! (fld ! refl (stop !))) (look-in ! 28 (sub ! 1 refl (whole !))))) (from ! (stop !)) (init ! 16 refl (tt, record { fits = room₂ .0 })) $
-        move ! (36 ∷ []) $
+        assigns ! (of-opd ! (load ! (from ! (fld ! {d = 8} refl (stop !))) (look-in ! 1 (sub ! 1 {d = 8} refl (whole !))))) (from ! (stop !)) (init ! 7 refl (tt, record { fits = room₀ .0 })) $
+        assigns ! (of-opd ! (load ! (from ! (fld ! {d = 8} refl (stop !))) (look-in ! 2 (sub ! 1 {d = 8} refl (whole !))))) (from ! (stop !)) (init ! 8 refl (tt, record { fits = room₁ .0 })) $
+        assigns ! (of-opd ! (load ! (from ! (fld ! {d = 8} refl (stop !))) (look-in ! 3 (sub ! 1 {d = 8} refl (whole !))))) (from ! (stop !)) (init ! 9 refl (tt, record { fits = room₂ .0 })) $
+        move ! (19 ∷ []) $
         use1 W (own₃ ⊛ own₃) (shr-slice-copy 𝓤 H A W (named 0) κ₃ u32 .twice x₃ (s₃ ∷ [])) $
         split ! $
         nothing ! $
-        move ! (42 ∷ 0 ∷ []) $
+        move ! (25 ∷ 0 ∷ []) $
         join ! $
         move ! (0 ∷ 2 ∷ []) $
         use2 W (raw (Judged 𝓤 H A at-mem run .pre to-judged)) (goes-judged) $
-        calls-at ! fm (Judged 𝓤 H A at-mem run) known-judged to-judged (and-then ! (load ! (from ! (stop !)) (look ! 22 refl)) (and-then ! (load ! (from ! (stop !)) (look ! 20 refl)) (and-then ! (load ! (from ! (stop !)) (look ! 18 refl)) (and-then ! (load ! (from ! (stop !)) (look ! 28 refl)) (and-then ! (load ! (from ! (stop !)) (look ! 26 refl)) (no-more !)))))) (λ v.
+        calls-at ! fm (Judged 𝓤 H A at-mem run) known-judged to-judged (and-then ! (load ! (from ! (stop !)) (look ! 9 refl)) (and-then ! (load ! (from ! (stop !)) (look ! 10 refl)) (and-then ! (load ! (from ! (stop !)) (look ! 11 refl)) (and-then ! (load ! (from ! (stop !)) (look ! 6 refl)) (and-then ! (load ! (from ! (stop !)) (look ! 7 refl)) (no-more !)))))) (λ v.
         use1 W (later (some (λ (r : Answer). (T₃ ⊛ ‵ (N.the-row .own r (v ∷ []))) ⊛ raw (ensured 𝓤 H A j.ended (j.clauses 𝓤 H A at-mem run) (κ₃, tt) xj tt r)))) (id⊢ 𝓤 _) $
         await ! tt $
         pick ! (λ r.
@@ -276,28 +281,27 @@ module _ {M : Type 1} (𝓤 : URA M) (H : Heap 𝓤) (A : Atoms 𝓤) (W : Given
         rewrite ! 0 (λ (us : List Val). ‵ (N.the-row .own r us)) (LL.tells N.the-type N′.the-laws r (v ∷ []) is₀) refl $
         peeks ! N.the-row (Is N.the-row) (shows 𝓤 H A N.the-row) r (valN r ∷ []) (λ is.
         drop ! $
-        land ! (from ! (stop !)) (init ! 24 refl (LL.lawful N.the-type N′.the-laws 𝓤 H A W .typed r _ is₀ .0)) $
-        rewrite ! 24 (λ (u : Val). ‵ (fat fullShare N′.mir l₆ 0 u)) (ap only (LL.tells N.the-type N′.the-laws r (v ∷ []) is₀)) refl $
-        assigns ! (bin ! (load ! (from ! (fld ! refl (stop !))) (look-in ! 24 (sub ! 0 refl (whole !)))) (lit ! tt) tt) (from ! (stop !)) (init ! 16 refl (tt, tt)) $
-        guarded ! (load ! (from ! (stop !)) (look ! 16 refl))
+        land ! (from ! (stop !)) (init ! 8 refl (LL.lawful N.the-type N′.the-laws 𝓤 H A W .typed r _ is₀ .0)) $
+        rewrite ! 8 (λ (u : Val). ‵ (fat fullShare N′.mir l₆ 0 u)) (ap only (LL.tells N.the-type N′.the-laws r (v ∷ []) is₀)) refl $
+        assigns ! (bin ! (load ! (from ! (fld ! answer-at-0 (stop !))) (look-in ! 8 (sub ! 0 answer-at-0 (whole !)))) (lit ! tt) tt) (from ! (stop !)) (init ! 12 refl (tt, tt)) $
+        guarded ! (load ! (from ! (stop !)) (look ! 12 refl))
         (λ bad.
-        assigns ! (of-opd ! (load ! (from ! (stop !)) (look ! 24 refl))) (from ! (stop !)) (init ! 36 refl (LL.lawful N.the-type N′.the-laws 𝓤 H A W .typed r _ is .0)) $
-        returns-within ! Post refl (look ! 36 refl) $
-        forget ! 16 refl $ forget ! 18 refl $ forget ! 20 refl $ forget ! 22 refl $ forget ! 24 refl $ forget ! 26 refl $ forget ! 28 refl $ forget ! 30 refl $ forget ! 32 refl $ forget ! 34 refl $ forget ! 36 refl $
-        move ! (36 ∷ 37 ∷ []) $ free1 ! $ move ! (34 ∷ 35 ∷ []) $ free1 ! $ move ! (32 ∷ 33 ∷ []) $ free1 ! $ move ! (30 ∷ 31 ∷ []) $ free1 ! $ move ! (28 ∷ 29 ∷ []) $ free1 ! $ move ! (26 ∷ 27 ∷ []) $ free1 ! $ move ! (24 ∷ 25 ∷ []) $ free1 ! $ move ! (22 ∷ 23 ∷ []) $ free1 ! $ move ! (20 ∷ 21 ∷ []) $ free1 ! $ move ! (18 ∷ 19 ∷ []) $ free1 ! $ move ! (16 ∷ 17 ∷ []) $ free1 ! $ move ! (14 ∷ 15 ∷ []) $ free1 ! $ move ! (12 ∷ 13 ∷ []) $ free1 ! $ move ! (10 ∷ 11 ∷ []) $ free1 ! $ move ! (8 ∷ 9 ∷ []) $ free1 ! $ move ! (6 ∷ 7 ∷ []) $ free1 ! $ move ! (4 ∷ 5 ∷ []) $ free1 ! $ move ! (2 ∷ 3 ∷ []) $ free1 ! $ free0 ! $
+        assigns ! (of-opd ! (load ! (from ! (stop !)) (look ! 8 refl))) (from ! (stop !)) (init ! 2 refl (LL.lawful N.the-type N′.the-laws 𝓤 H A W .typed r _ is .0)) $
+        returns-within ! Post refl (look ! 2 refl) $
+        frees-all ! 2 (full _ ∷ full _ ∷ full _ ∷ full _ ∷ full _ ∷ full _ ∷ full _ ∷ full _ ∷ full _ ∷ full _ ∷ full _ ∷ bare ∷ bare ∷ bare ∷ bare ∷ bare ∷ bare ∷ bare ∷ []) refl $
         keep ! (7 ∷ 6 ∷ 5 ∷ 0 ∷ 4 ∷ 3 ∷ 2 ∷ 1 ∷ []) $
         by ! (refuses r is e bad))
         (λ good.
-        assigns ! (addr ! (from ! (fld ! refl (hop ! (look-in ! 34 (sub ! 0 refl (whole !))) (stop !))))) (from ! (stop !)) (init ! 12 refl (tt, tt)) $
-        assigns ! (agg ! (and-then ! (load ! (from ! (stop !)) (look ! 12 refl)) (and-then ! (load ! (from ! (fld ! refl (stop !))) (look-in ! 34 (sub ! 1 refl (whole !)))) (no-more !)))) (from ! (stop !)) (init ! 10 refl (tt, (tt, (record { fits = room₀ .0 }, tt)))) $
+        assigns ! (addr ! (from ! (fld ! {d = 0} refl (hop ! (look-in ! 3 (sub ! 0 {d = 0} refl (whole !))) (stop !))))) (from ! (stop !)) (init ! 14 refl (tt, tt)) $
+        assigns ! (agg ! (and-then ! (load ! (from ! (stop !)) (look ! 14 refl)) (and-then ! (load ! (from ! (fld ! {d = 8} refl (stop !))) (look-in ! 3 (sub ! 1 {d = 8} refl (whole !)))) (no-more !)))) (from ! (stop !)) (init ! 15 refl (tt, (tt, (record { fits = room₀ .0 }, tt)))) $
         move ! (1 ∷ []) $
         use1 W (own₃ ⊛ own₃) (shr-slice-copy 𝓤 H A W (named 0) κ₃ u32 .twice x₃ (s₃ ∷ [])) $
         split ! $
-        move ! (44 ∷ 2 ∷ []) $
+        move ! (27 ∷ 2 ∷ []) $
         join ! $
-        move ! (0 ∷ 41 ∷ 2 ∷ []) $
+        move ! (0 ∷ 24 ∷ 2 ∷ []) $
         use3 W (raw (Fill 𝓤 H A at-mem run .pre to-fill)) (goes-fill (enough r e good)) $
-        calls-at ! fm (Fill 𝓤 H A at-mem run) known-fill to-fill (and-then ! (load ! (from ! (stop !)) (look ! 10 refl)) (and-then ! (load ! (from ! (stop !)) (look ! 26 refl)) (and-then ! (load ! (from ! (stop !)) (look ! 28 refl)) (no-more !)))) (λ u₀.
+        calls-at ! fm (Fill 𝓤 H A at-mem run) known-fill to-fill (and-then ! (load ! (from ! (stop !)) (look ! 15 refl)) (and-then ! (load ! (from ! (stop !)) (look ! 7 refl)) (and-then ! (load ! (from ! (stop !)) (look ! 6 refl)) (no-more !)))) (λ u₀.
         use1 W (later (some (λ (d : Unit {0}). ((‵ (flft κ₀ q₀) ⊛ T₃) ⊛ ‵ (unit .own d (u₀ ∷ []))) ⊛ raw (ensured 𝓤 H A fl.ended (fl.clauses 𝓤 H A at-mem run) (κ₀, (κ₃, tt)) xf tt d)))) (id⊢ 𝓤 _) $
         await ! tt $
         pick ! (λ d.
@@ -318,16 +322,16 @@ module _ {M : Type 1} (𝓤 : URA M) (H : Heap 𝓤) (A : Atoms 𝓤) (W : Given
         split ! $
         move ! (1 ∷ []) $
         feqL ! (λ u₀-is.
-        land ! (from ! (stop !)) (init ! 15 refl (is-unit u₀ u₀-is)) $
+        land ! (from ! (stop !)) (init ! 14 refl (is-unit u₀ u₀-is)) $
         split ! $
-        assigns ! (addr ! (from ! (fld ! refl (hop ! (look-in ! 34 (sub ! 0 refl (whole !))) (stop !))))) (from ! (stop !)) (init ! 10 refl (tt, tt)) $
-        assigns ! (agg ! (and-then ! (load ! (from ! (stop !)) (look ! 10 refl)) (and-then ! (load ! (from ! (fld ! refl (stop !))) (look-in ! 34 (sub ! 1 refl (whole !)))) (no-more !)))) (from ! (stop !)) (init ! 8 refl (tt, (tt, (record { fits = room₁ .0 }, tt)))) $
+        assigns ! (addr ! (from ! (fld ! {d = 0} refl (hop ! (look-in ! 6 (sub ! 0 {d = 0} refl (whole !))) (stop !))))) (from ! (stop !)) (init ! 18 refl (tt, tt)) $
+        assigns ! (agg ! (and-then ! (load ! (from ! (stop !)) (look ! 18 refl)) (and-then ! (load ! (from ! (fld ! {d = 8} refl (stop !))) (look-in ! 6 (sub ! 1 {d = 8} refl (whole !)))) (no-more !)))) (from ! (stop !)) (init ! 19 refl (tt, (tt, (record { fits = room₁ .0 }, tt)))) $
         nothing ! $
-        move ! (44 ∷ 0 ∷ []) $
+        move ! (27 ∷ 0 ∷ []) $
         join ! $
-        move ! (0 ∷ 42 ∷ []) $
+        move ! (0 ∷ 25 ∷ []) $
         use2 W (raw (Wipe 𝓤 H A at-mem run .pre (to-wipe κ₁ q₁ x₁))) (goes-wipe κ₁ q₁ x₁) $
-        calls-at ! fm (Wipe 𝓤 H A at-mem run) known-wipe (to-wipe κ₁ q₁ x₁) (and-then ! (load ! (from ! (stop !)) (look ! 9 refl)) (no-more !)) (λ u₁.
+        calls-at ! fm (Wipe 𝓤 H A at-mem run) known-wipe (to-wipe κ₁ q₁ x₁) (and-then ! (load ! (from ! (stop !)) (look ! 20 refl)) (no-more !)) (λ u₁.
         use1 W (later (some (λ (d : Unit {0}). ((‵ (flft κ₁ q₁) ⊛ ‵ ftrue) ⊛ ‵ (unit .own d (u₁ ∷ []))) ⊛ raw (ensured 𝓤 H A wp.ended (wp.clauses 𝓤 H A at-mem run) (κ₁, tt) (x₁, tt) tt d)))) (id⊢ 𝓤 _) $
         await ! tt $
         pick ! (λ d.
@@ -348,18 +352,18 @@ module _ {M : Type 1} (𝓤 : URA M) (H : Heap 𝓤) (A : Atoms 𝓤) (W : Given
         split ! $
         move ! (1 ∷ []) $
         feqL ! (λ u₁-is.
-        land ! (from ! (stop !)) (store ! 18 refl (is-unit u₁ u₁-is)) $
+        land ! (from ! (stop !)) (store ! 17 refl (is-unit u₁ u₁-is)) $
         split ! $
         move ! (1 ∷ []) $
         drop ! $
-        assigns ! (addr ! (from ! (fld ! refl (hop ! (look-in ! 34 (sub ! 0 refl (whole !))) (stop !))))) (from ! (stop !)) (init ! 8 refl (tt, tt)) $
-        assigns ! (agg ! (and-then ! (load ! (from ! (stop !)) (look ! 8 refl)) (and-then ! (load ! (from ! (fld ! refl (stop !))) (look-in ! 34 (sub ! 1 refl (whole !)))) (no-more !)))) (from ! (stop !)) (init ! 6 refl (tt, (tt, (record { fits = room₂ .0 }, tt)))) $
+        assigns ! (addr ! (from ! (fld ! {d = 0} refl (hop ! (look-in ! 9 (sub ! 0 {d = 0} refl (whole !))) (stop !))))) (from ! (stop !)) (init ! 22 refl (tt, tt)) $
+        assigns ! (agg ! (and-then ! (load ! (from ! (stop !)) (look ! 22 refl)) (and-then ! (load ! (from ! (fld ! {d = 8} refl (stop !))) (look-in ! 9 (sub ! 1 {d = 8} refl (whole !)))) (no-more !)))) (from ! (stop !)) (init ! 23 refl (tt, (tt, (record { fits = room₂ .0 }, tt)))) $
         nothing ! $
-        move ! (44 ∷ 0 ∷ []) $
+        move ! (27 ∷ 0 ∷ []) $
         join ! $
-        move ! (0 ∷ 43 ∷ []) $
+        move ! (0 ∷ 26 ∷ []) $
         use2 W (raw (Wipe 𝓤 H A at-mem run .pre (to-wipe κ₂ q₂ x₂))) (goes-wipe κ₂ q₂ x₂) $
-        calls-at ! fm (Wipe 𝓤 H A at-mem run) known-wipe (to-wipe κ₂ q₂ x₂) (and-then ! (load ! (from ! (stop !)) (look ! 7 refl)) (no-more !)) (λ u₂.
+        calls-at ! fm (Wipe 𝓤 H A at-mem run) known-wipe (to-wipe κ₂ q₂ x₂) (and-then ! (load ! (from ! (stop !)) (look ! 24 refl)) (no-more !)) (λ u₂.
         use1 W (later (some (λ (d : Unit {0}). ((‵ (flft κ₂ q₂) ⊛ ‵ ftrue) ⊛ ‵ (unit .own d (u₂ ∷ []))) ⊛ raw (ensured 𝓤 H A wp.ended (wp.clauses 𝓤 H A at-mem run) (κ₂, tt) (x₂, tt) tt d)))) (id⊢ 𝓤 _) $
         await ! tt $
         pick ! (λ d.
@@ -380,16 +384,15 @@ module _ {M : Type 1} (𝓤 : URA M) (H : Heap 𝓤) (A : Atoms 𝓤) (W : Given
         split ! $
         move ! (1 ∷ []) $
         feqL ! (λ u₂-is.
-        land ! (from ! (stop !)) (store ! 20 refl (is-unit u₂ u₂-is)) $
+        land ! (from ! (stop !)) (store ! 19 refl (is-unit u₂ u₂-is)) $
         split ! $
         move ! (1 ∷ []) $
         drop ! $
-        assigns ! (of-opd ! (load ! (from ! (stop !)) (look ! 30 refl))) (from ! (stop !)) (init ! 42 refl (LL.lawful N.the-type N′.the-laws 𝓤 H A W .typed r _ is .0)) $
-        returns ! (look ! 42 refl) $
-        forget ! 8 refl $ forget ! 10 refl $ forget ! 12 refl $ forget ! 14 refl $ forget ! 16 refl $ forget ! 18 refl $ forget ! 20 refl $ forget ! 22 refl $ forget ! 24 refl $ forget ! 26 refl $ forget ! 28 refl $ forget ! 30 refl $ forget ! 32 refl $ forget ! 34 refl $ forget ! 36 refl $ forget ! 38 refl $ forget ! 40 refl $ forget ! 42 refl $
-        move ! (42 ∷ 43 ∷ []) $ free1 ! $ move ! (40 ∷ 41 ∷ []) $ free1 ! $ move ! (38 ∷ 39 ∷ []) $ free1 ! $ move ! (36 ∷ 37 ∷ []) $ free1 ! $ move ! (34 ∷ 35 ∷ []) $ free1 ! $ move ! (32 ∷ 33 ∷ []) $ free1 ! $ move ! (30 ∷ 31 ∷ []) $ free1 ! $ move ! (28 ∷ 29 ∷ []) $ free1 ! $ move ! (26 ∷ 27 ∷ []) $ free1 ! $ move ! (24 ∷ 25 ∷ []) $ free1 ! $ move ! (22 ∷ 23 ∷ []) $ free1 ! $ move ! (20 ∷ 21 ∷ []) $ free1 ! $ move ! (18 ∷ 19 ∷ []) $ free1 ! $ move ! (16 ∷ 17 ∷ []) $ free1 ! $ move ! (14 ∷ 15 ∷ []) $ free1 ! $ move ! (12 ∷ 13 ∷ []) $ free1 ! $ move ! (10 ∷ 11 ∷ []) $ free1 ! $ move ! (8 ∷ 9 ∷ []) $ free1 ! $ free0 ! $
+        assigns ! (of-opd ! (load ! (from ! (stop !)) (look ! 14 refl))) (from ! (stop !)) (init ! 8 refl (LL.lawful N.the-type N′.the-laws 𝓤 H A W .typed r _ is .0)) $
+        returns ! (look ! 8 refl) $
+        frees-all ! 8 (full _ ∷ full _ ∷ full _ ∷ full _ ∷ full _ ∷ full _ ∷ full _ ∷ full _ ∷ full _ ∷ full _ ∷ full _ ∷ full _ ∷ full _ ∷ full _ ∷ full _ ∷ full _ ∷ full _ ∷ full _ ∷ []) refl $
         keep ! (4 ∷ 2 ∷ 0 ∷ 5 ∷ 6 ∷ 3 ∷ 1 ∷ 7 ∷ []) $
-        by ! (exits r is e good (z₀ .0) (z₁ .0) (z₂ .0) e₀ e₁ e₂ len₀ len₁ len₂)))))))))))))))))))))))))))))))))))))))))))
+        by ! (exits r is e good (z₀ .0) (z₁ .0) (z₂ .0) e₀ e₁ e₂ len₀ len₁ len₂))))))))))))))))))))))))))
 
 module _ {M : Type 1} (𝓤 : URA M) (H : Heap 𝓤) (A : Atoms 𝓤) (W : Given 𝓤 H A) (at-mem : Memory → SProp 𝓤) (run : Routine → Fun 𝓤) where
   walks : (C : Calls 𝓤 H) (Λ : Loops 𝓤 H) → FmC 𝓤 H (W .laws) C → Triple 𝓤 (C #judged) (Judged 𝓤 H A at-mem run) → Triple 𝓤 (C #fill) (Fill 𝓤 H A at-mem run) → Triple 𝓤 (C #wipe) (Wipe 𝓤 H A at-mem run)
@@ -412,6 +415,6 @@ setup-spec 𝓤 H 𝓜 𝓖 𝓡 =
     entered 𝓤 H (tripleOf 𝓤 H (𝓖 .A) f.signature (f.spec 𝓤 H (𝓖 .A) (𝓜 .mem) (𝓡 .run)))
     (tables 𝓤 H 𝓜 𝓡 code.env .C) (tables 𝓤 H 𝓜 𝓡 code.env .Λ) #setup code.function (code.unfolded 𝓤 H 𝓜 𝓡)
     (meets 𝓤 H (𝓖 .A) (givenOf 𝓤 H 𝓜 𝓖) (𝓜 .mem) (𝓡 .run) (tablesOf 𝓤 H 𝓜 (tables 𝓤 H 𝓜 𝓡 code.env))
-    (cited 𝓤 H (Judged 𝓤 H (𝓖 .A) (𝓜 .mem) (𝓡 .run)) 𝓜 𝓡 code.env #judged j-def.routine code.calls-book·fresh·judged (j-thm.met 𝓤 H 𝓜 𝓖 𝓡))
+    (cited 𝓤 H (Judged 𝓤 H (𝓖 .A) (𝓜 .mem) (𝓡 .run)) 𝓜 𝓡 code.env #judged j-def.routine code.calls-calls·setup-answer (j-thm.met 𝓤 H 𝓜 𝓖 𝓡))
     (cited 𝓤 H (Fill 𝓤 H (𝓖 .A) (𝓜 .mem) (𝓡 .run)) 𝓜 𝓡 code.env #fill fl-def.routine code.calls-book·fresh·fill (fl-thm.met 𝓤 H 𝓜 𝓖 𝓡))
-    (cited 𝓤 H (Wipe 𝓤 H (𝓖 .A) (𝓜 .mem) (𝓡 .run)) 𝓜 𝓡 code.env #wipe wp-def.routine code.calls-book·fresh·wipe (wp-thm.met 𝓤 H 𝓜 𝓖 𝓡)))
+    (cited 𝓤 H (Wipe 𝓤 H (𝓖 .A) (𝓜 .mem) (𝓡 .run)) 𝓜 𝓡 code.env #wipe wp-def.routine code.calls-calls·wipe (wp-thm.met 𝓤 H 𝓜 𝓖 𝓡)))

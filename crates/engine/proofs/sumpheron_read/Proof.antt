@@ -18,7 +18,7 @@ use ghost.Atoms.{Atoms}
 use contract.Monad.{Fun, fact}
 use contract.Running.{givenOf, tables, tablesOf}
 use types.Kit.{Given, Item, ‵, raw, some, later, _⊛_, ⋆, _$_, _∵_, !, qed, by, move, keep, drop, use1, use2, split, join, pick, fsplit, fjoin, suffices, frame, await, done}
-use types.Run.{look, init, forget, stop, from, load, and-then, no-more, land, returns, enter, alloc1, alloc0, params1, pass1, pass0, free1, free0}
+use types.Run.{look, init, stop, from, load, and-then, no-more, land, returns, enter, params1, pass1, pass0}
 use sound.WpLaws.{FmC, fmOf, WpFn-mono}
 use denote.RattleType.{owns}
 use denote.Laws.{Is, shows}
@@ -44,6 +44,8 @@ use Rattle.stock.proofs.Record as T
 use Rattle.rules.proofs.Answer as N
 use Rattle.rules.proofs.Answer.Laws as N′
 use Rattle.book.specs.Lent.{lent, readingIn}
+use Rattle.book.proofs.Locals.{opens-all, frees-all}
+use Rattle.book.proofs.Locals.Left.{full}
 use Rattle.book.proofs.read as g
 use Rattle.book.proofs.read.Symbol as g-def
 use Rattle.book.proofs.read.Symbol.{name as #step}
@@ -161,34 +163,38 @@ module _ {M : Type 1} (𝓤 : URA M) (H : Heap 𝓤) (A : Atoms 𝓤) (W : Given
         drop ! $
         drop ! $
         enter ! C Λ code.function (s₀ ∷ s₁ ∷ s₂ ∷ vint w32 x₃ ∷ []) _ $
-        alloc1 ! (λ l₀. alloc1 ! (λ l₁. alloc1 ! (λ l₂. alloc1 ! (λ l₃. alloc1 ! (λ l₄.
-        alloc0 ! $ params1 ! $
-        pass1 ! (init ! 6 refl (tt, (tt, (record { fits = room₀ .0 }, tt)))) $
-        pass1 ! (init ! 4 refl (tt, (tt, (record { fits = room₁ .0 }, tt)))) $
-        pass1 ! (init ! 2 refl (tt, (tt, (record { fits = room₂ .0 }, tt)))) $
-        pass1 ! (init ! 0 refl (tt, record { fits = x₃-is .1 })) $
+        opens-all ! (λ l₀ l₁ l₂ l₃ l₄.
+        params1 ! $
+        pass1 ! (init ! 1 refl (tt, (tt, (record { fits = room₀ .0 }, tt)))) $
+        pass1 ! (init ! 2 refl (tt, (tt, (record { fits = room₁ .0 }, tt)))) $
+        pass1 ! (init ! 3 refl (tt, (tt, (record { fits = room₂ .0 }, tt)))) $
+        pass1 ! (init ! 4 refl (tt, record { fits = x₃-is .1 })) $
         pass0 ! $
-        move ! (12 ∷ []) $
+        move ! (8 ∷ []) $
         use1 W (own₀ ⊛ own₀) (shr-slice-copy 𝓤 H A W (named 0) κ₀ T.the-row .twice x₀ (s₀ ∷ [])) $
         split ! $
-        move ! (13 ∷ []) $
+        move ! (9 ∷ []) $
         use1 W (own₁ ⊛ own₁) (shr-slice-copy 𝓤 H A W (named 1) κ₁ u32 .twice x₁ (s₁ ∷ [])) $
         split ! $
-        move ! (14 ∷ []) $
+        move ! (10 ∷ []) $
         use1 W (own₂ ⊛ own₂) (shr-slice-copy 𝓤 H A W (named 2) κ₂ u32 .twice x₂ (s₂ ∷ [])) $
         split ! $
         move ! (3 ∷ 1 ∷ []) $
         join ! $
         move ! (4 ∷ 0 ∷ []) $
         join ! $
-        move ! (14 ∷ 0 ∷ []) $
+        move ! (10 ∷ 0 ∷ []) $
         use2 W (raw (Step 𝓤 H A at-mem run .pre to-step)) (goes-step) $
-        -- [pre; own2; own1; own0; _4; _4+; _3; _3+; _2; _2+; _1; _1+; _0; _0+]
-        calls-at ! fm (Step 𝓤 H A at-mem run) known to-step (and-then ! (load ! (from ! (stop !)) (look ! 10 refl)) (and-then ! (load ! (from ! (stop !)) (look ! 8 refl)) (and-then ! (load ! (from ! (stop !)) (look ! 6 refl)) (and-then ! (load ! (from ! (stop !)) (look ! 4 refl)) (no-more !))))) (λ v.
+        -- [pre; own2; own1; own0; _0; _1; _2; _3; _4; dies]
+        calls-at ! fm (Step 𝓤 H A at-mem run) known to-step (and-then ! (load ! (from ! (stop !)) (look ! 5 refl)) (and-then ! (load ! (from ! (stop !)) (look ! 6 refl)) (and-then ! (load ! (from ! (stop !)) (look ! 7 refl)) (and-then ! (load ! (from ! (stop !)) (look ! 8 refl)) (no-more !))))) (λ v.
         use1 W (later (some (λ (r : Answer). (tokens ⊛ ‵ (N.the-row .own r (v ∷ []))) ⊛ raw (ensured 𝓤 H A g.ended (g.clauses 𝓤 H A at-mem run) (κ₀, (κ₁, (κ₂, tt))) x′ tt r)))) (id⊢ 𝓤 _) $
         await ! tt $
         pick ! (λ r.
         split ! $
+        split ! $
+        move ! (1 ∷ []) $
+        peeks ! N.the-row (Is N.the-row) (shows 𝓤 H A N.the-row) r (v ∷ []) (λ is.
+        drop ! $
         move ! (1 ∷ []) $
         use1 W (some (λ (zs : Ends). ‵ (lasts g.ended (κ₀, (κ₁, (κ₂, tt))) x′ zs) ⊛ raw (fact 𝓤 (Done r)))) (id⊢ 𝓤 _) $
         pick ! (λ zs.
@@ -196,16 +202,11 @@ module _ {M : Type 1} (𝓤 : URA M) (H : Heap 𝓤) (A : Atoms 𝓤) (W : Given
         move ! (1 ∷ []) $
         heard ! (Done r) (λ e.
         drop ! $
-        split ! $
-        move ! (1 ∷ []) $
-        peeks ! N.the-row (Is N.the-row) (shows 𝓤 H A N.the-row) r (v ∷ []) (λ is.
-        drop ! $
-        land ! (from ! (stop !)) (init ! 12 refl (LL.lawful N.the-type N′.the-laws 𝓤 H A W .typed r _ is .0)) $
-        returns ! (look ! 12 refl) $
-        forget ! 4 refl $ forget ! 6 refl $ forget ! 8 refl $ forget ! 10 refl $ forget ! 12 refl $
-        move ! (12 ∷ 13 ∷ []) $ free1 ! $ move ! (10 ∷ 11 ∷ []) $ free1 ! $ move ! (8 ∷ 9 ∷ []) $ free1 ! $ move ! (6 ∷ 7 ∷ []) $ free1 ! $ move ! (4 ∷ 5 ∷ []) $ free1 ! $ free0 ! $
+        land ! (from ! (stop !)) (init ! 4 refl (LL.lawful N.the-type N′.the-laws 𝓤 H A W .typed r _ is .0)) $
+        returns ! (look ! 4 refl) $
+        frees-all ! 4 (full _ ∷ full _ ∷ full _ ∷ full _ ∷ full _ ∷ []) refl $
         keep ! (0 ∷ 3 ∷ 2 ∷ 1 ∷ []) $
-        by ! (exits r v is e)))))))))))
+        by ! (exits r v is e)))))))
 
 -- ------------------------------------------------------------------ it meets its contract
 

@@ -19,7 +19,7 @@ use contract.Monad.{Fun, fact}
 use contract.Running.{givenOf, tables, tablesOf}
 use types.Kit.{Given, Item, ‵, raw, some, later, given, _⊛_, ⋆, _$_, _∵_, !, qed, by, move, keep, drop as let-go, use1, use3, split, join, pick, rewrite, check, learn, fsplit, fjoin, fpick, fpack, feqL, suffices, frame, await, done}
 use types.Tokens.{lft-new, lft-end}
-use types.Run.{look, init, forget, stop, hop, fld, from, load, addr, of-opd, and-then, no-more, assigns, land, returns, enter, alloc1, alloc0, params1, pass1, pass0, free1, free0}
+use types.Run.{look, init, stop, hop, fld, from, load, addr, of-opd, and-then, no-more, assigns, land, returns, enter, params1, pass1, pass0}
 use types.Part.{agg, whole, sub, look-in}
 use types.SemTy.{Body}
 use sound.WpLaws.{FmC, fmOf, WpFn-mono}
@@ -53,6 +53,8 @@ use Rattle.stock.specs.View.{bytes, Settles}
 use Rattle.stock.specs.declared.Settled.{Settled}
 use Rattle.stock.proofs.Settled as D
 use Rattle.stock.proofs.Settled.Laws as D′
+use Rattle.book.proofs.Locals.{opens-all, frees-all}
+use Rattle.book.proofs.Locals.Left.{full}
 use Rattle.book.proofs.settle_one as g
 use Rattle.book.proofs.settle_one.Symbol as g-def
 use Rattle.book.proofs.settle_one.Symbol.{name as #step}
@@ -203,34 +205,34 @@ module _ {M : Type 1} (𝓤 : URA M) (H : Heap 𝓤) (A : Atoms 𝓤) (W : Given
         let-go ! $
         let-go ! $
         enter ! C Λ code.function (valT h ∷ s₁ ∷ s₂ ∷ vint w32 x₃ ∷ []) _ $
-        alloc1 ! (λ l₀. alloc1 ! (λ l₁. alloc1 ! (λ l₂. alloc1 ! (λ l₃. alloc1 ! (λ l₄. alloc1 ! (λ l₅. alloc1 ! (λ l₆. alloc1 ! (λ l₇. alloc1 ! (λ l₈. alloc1 ! (λ l₉. alloc1 ! (λ l₁₀. alloc1 ! (λ l₁₁. alloc1 ! (λ l₁₂.
-        alloc0 ! $ params1 ! $
-        pass1 ! (init ! 22 refl (LL.lawful T.the-type T′.the-laws 𝓤 H A W .typed h _ was .0)) $
-        pass1 ! (init ! 20 refl (tt, (tt, (record { fits = room₁ .0 }, tt)))) $
-        pass1 ! (init ! 18 refl (tt, (tt, (record { fits = room₂ .0 }, tt)))) $
-        pass1 ! (init ! 16 refl (tt, record { fits = x₃-is .1 })) $
+        opens-all ! (λ l₀ l₁ l₂ l₃ l₄ l₅ l₆ l₇ l₈ l₉ l₁₀ l₁₁ l₁₂.
+        params1 ! $
+        pass1 ! (init ! 1 refl (LL.lawful T.the-type T′.the-laws 𝓤 H A W .typed h _ was .0)) $
+        pass1 ! (init ! 2 refl (tt, (tt, (record { fits = room₁ .0 }, tt)))) $
+        pass1 ! (init ! 3 refl (tt, (tt, (record { fits = room₂ .0 }, tt)))) $
+        pass1 ! (init ! 4 refl (tt, record { fits = x₃-is .1 })) $
         pass0 ! $
-        assigns ! (of-opd ! (load ! (from ! (stop !)) (look ! 22 refl))) (from ! (stop !)) (init ! 14 refl (LL.lawful T.the-type T′.the-laws 𝓤 H A W .typed h _ was .0)) $
-        assigns ! (addr ! (from ! (stop !))) (from ! (stop !)) (init ! 10 refl (tt, tt)) $
-        assigns ! (addr ! (from ! (fld ! refl (hop ! (look-in ! 20 (sub ! 0 refl (whole !))) (stop !))))) (from ! (stop !)) (init ! 8 refl (tt, tt)) $
-        assigns ! (agg ! (and-then ! (load ! (from ! (stop !)) (look ! 8 refl)) (and-then ! (load ! (from ! (fld ! refl (stop !))) (look-in ! 20 (sub ! 1 refl (whole !)))) (no-more !)))) (from ! (stop !)) (init ! 6 refl (tt, (tt, (record { fits = room₁ .0 }, tt)))) $
-        assigns ! (addr ! (from ! (fld ! refl (hop ! (look-in ! 18 (sub ! 0 refl (whole !))) (stop !))))) (from ! (stop !)) (init ! 4 refl (tt, tt)) $
-        assigns ! (agg ! (and-then ! (load ! (from ! (stop !)) (look ! 4 refl)) (and-then ! (load ! (from ! (fld ! refl (stop !))) (look-in ! 18 (sub ! 1 refl (whole !)))) (no-more !)))) (from ! (stop !)) (init ! 2 refl (tt, (tt, (record { fits = room₂ .0 }, tt)))) $
+        assigns ! (of-opd ! (load ! (from ! (stop !)) (look ! 1 refl))) (from ! (stop !)) (init ! 5 refl (LL.lawful T.the-type T′.the-laws 𝓤 H A W .typed h _ was .0)) $
+        assigns ! (addr ! (from ! (stop !))) (from ! (stop !)) (init ! 7 refl (tt, tt)) $
+        assigns ! (addr ! (from ! (fld ! {d = 0} refl (hop ! (look-in ! 2 (sub ! 0 {d = 0} refl (whole !))) (stop !))))) (from ! (stop !)) (init ! 8 refl (tt, tt)) $
+        assigns ! (agg ! (and-then ! (load ! (from ! (stop !)) (look ! 8 refl)) (and-then ! (load ! (from ! (fld ! {d = 8} refl (stop !))) (look-in ! 2 (sub ! 1 {d = 8} refl (whole !)))) (no-more !)))) (from ! (stop !)) (init ! 9 refl (tt, (tt, (record { fits = room₁ .0 }, tt)))) $
+        assigns ! (addr ! (from ! (fld ! {d = 0} refl (hop ! (look-in ! 3 (sub ! 0 {d = 0} refl (whole !))) (stop !))))) (from ! (stop !)) (init ! 10 refl (tt, tt)) $
+        assigns ! (agg ! (and-then ! (load ! (from ! (stop !)) (look ! 10 refl)) (and-then ! (load ! (from ! (fld ! {d = 8} refl (stop !))) (look-in ! 3 (sub ! 1 {d = 8} refl (whole !)))) (no-more !)))) (from ! (stop !)) (init ! 11 refl (tt, (tt, (record { fits = room₂ .0 }, tt)))) $
         lft-new ! tt (λ ν.
-        move ! (15 ∷ []) $
+        move ! (6 ∷ []) $
         use1 W (‵ (mem T.the-row .lies h l₅ 0)) (cell-in 𝓤 H A W h l₅ was) $
         use1 W (later (some (λ (δ : GName). own₀ l₅ ν δ ⊛ ‵ (flent (ν ∷ []) (Body (mem T.the-row) l₅ 0 δ))))) (lends-ref 𝓤 H A W T.the-row (named 0) (ν ∷ []) h l₅ 0) $
         await ! tt $
         pick ! (λ δ.
         split ! $
-        move ! (29 ∷ 28 ∷ []) $
+        move ! (17 ∷ 16 ∷ []) $
         join ! $
-        move ! (3 ∷ 29 ∷ []) $
+        move ! (3 ∷ 17 ∷ []) $
         join ! $
         move ! (0 ∷ 2 ∷ 1 ∷ []) $
         use3 W (raw (Step 𝓤 H A at-mem run .pre (to-step l₅ ν δ))) (goes-step l₅ ν δ) $
-        -- [pre; lent; _12; _12+; _11; _11+; _10; _10+; _9; _9+; _8; _8+; _7; _7+; _6; _6+; _5+; _4; _4+; _3; _3+; _2; _2+; _1; _1+; _0; _0+]
-        calls-at ! fm (Step 𝓤 H A at-mem run) known (to-step l₅ ν δ) (and-then ! (load ! (from ! (stop !)) (look ! 12 refl)) (and-then ! (load ! (from ! (stop !)) (look ! 8 refl)) (and-then ! (load ! (from ! (stop !)) (look ! 4 refl)) (and-then ! (load ! (from ! (stop !)) (look ! 17 refl)) (no-more !))))) (λ v.
+        -- [pre; lent; _0; _1; _2; _3; _4; _6; _7; _8; _9; _10; _11; _12; dies]
+        calls-at ! fm (Step 𝓤 H A at-mem run) known (to-step l₅ ν δ) (and-then ! (load ! (from ! (stop !)) (look ! 8 refl)) (and-then ! (load ! (from ! (stop !)) (look ! 10 refl)) (and-then ! (load ! (from ! (stop !)) (look ! 12 refl)) (and-then ! (load ! (from ! (stop !)) (look ! 6 refl)) (no-more !))))) (λ v.
         use1 W (later (some (λ (r : Notice). ((‵ (flft (ν ∷ []) fullShare) ⊛ tokens) ⊛ ‵ (N.the-row .own r (v ∷ []))) ⊛ raw (ensured 𝓤 H A g.ended (g.clauses 𝓤 H A at-mem run) (ν ∷ [], (κ₁, (κ₂, tt))) (x′ l₅ δ) tt r)))) (id⊢ 𝓤 _) $
         await ! tt $
         pick ! (λ r.
@@ -261,8 +263,8 @@ module _ {M : Type 1} (𝓤 : URA M) (H : Heap 𝓤) (A : Atoms 𝓤) (W : Given
         rewrite ! 0 (λ (us : List Val). ‵ (N.the-row .own r us)) (LL.tells N.the-type N′.the-laws r (v ∷ []) is) refl $
         peeks ! N.the-row (Is N.the-row) (shows 𝓤 H A N.the-row) r (valN r ∷ []) (λ isr.
         let-go ! $
-        land ! (from ! (stop !)) (init ! 17 refl (LL.lawful N.the-type N′.the-laws 𝓤 H A W .typed r _ is .0)) $
-        rewrite ! 17 (λ (u : Val). ‵ (fat fullShare N′.mir l₆ 0 u)) (ap only (LL.tells N.the-type N′.the-laws r (v ∷ []) is)) refl $
+        land ! (from ! (stop !)) (init ! 10 refl (LL.lawful N.the-type N′.the-laws 𝓤 H A W .typed r _ is .0)) $
+        rewrite ! 10 (λ (u : Val). ‵ (fat fullShare N′.mir l₆ 0 u)) (ap only (LL.tells N.the-type N′.the-laws r (v ∷ []) is)) refl $
         split ! $
         lft-end ! tt $
         move ! (0 ∷ 5 ∷ 4 ∷ []) $
@@ -270,14 +272,14 @@ module _ {M : Type 1} (𝓤 : URA M) (H : Heap 𝓤) (A : Atoms 𝓤) (W : Given
         await ! tt $
         use1 W (given (IsT (zs .0)) (‵ (fat fullShare T′.mir l₅ 0 (valT (zs .0))))) (cell-out 𝓤 H A W (zs .0) l₅) $
         learn ! (λ isz.
-        -- [_5; toks; final2; final1; _12; _12+; _11; _11+; _10; _10+; _9; _9+; _8; _8+; _7; _7+; _6; _6+; _5+; _4; _4+; _3; _3+; _2; _2+; _1; _1+; _0; _0+]
-        assigns ! (of-opd ! (load ! (from ! (stop !)) (look ! 0 refl))) (from ! (stop !)) (init ! 4 refl (LL.lawful T.the-type T′.the-laws 𝓤 H A W .typed (zs .0) _ isz .0)) $
-        assigns ! (agg ! (and-then ! (load ! (from ! (stop !)) (look ! 16 refl)) (and-then ! (load ! (from ! (stop !)) (look ! 4 refl)) (no-more !)))) (from ! (stop !)) (init ! 27 refl (LL.lawful D.the-type D′.the-laws 𝓤 H A W .typed (both r (zs .0)) _ (is-both r (zs .0) isr isz) .0)) $
-        returns ! (look ! 27 refl) $
-        forget ! 0 refl $ forget ! 4 refl $ forget ! 6 refl $ forget ! 8 refl $ forget ! 10 refl $ forget ! 12 refl $ forget ! 14 refl $ forget ! 16 refl $ forget ! 19 refl $ forget ! 21 refl $ forget ! 23 refl $ forget ! 25 refl $ forget ! 27 refl $
-        move ! (27 ∷ 28 ∷ []) $ free1 ! $ move ! (25 ∷ 26 ∷ []) $ free1 ! $ move ! (23 ∷ 24 ∷ []) $ free1 ! $ move ! (21 ∷ 22 ∷ []) $ free1 ! $ move ! (19 ∷ 20 ∷ []) $ free1 ! $ move ! (0 ∷ 18 ∷ []) $ free1 ! $ move ! (15 ∷ 16 ∷ []) $ free1 ! $ move ! (13 ∷ 14 ∷ []) $ free1 ! $ move ! (11 ∷ 12 ∷ []) $ free1 ! $ move ! (9 ∷ 10 ∷ []) $ free1 ! $ move ! (7 ∷ 8 ∷ []) $ free1 ! $ move ! (5 ∷ 6 ∷ []) $ free1 ! $ move ! (3 ∷ 4 ∷ []) $ free1 ! $ free0 ! $
+        -- [_5; toks; final2; final1; _0; _1; _2; _3; _4; _6; _7; _8; _9; _10; _11; _12; dies]
+        assigns ! (of-opd ! (load ! (from ! (stop !)) (look ! 0 refl))) (from ! (stop !)) (init ! 15 refl (LL.lawful T.the-type T′.the-laws 𝓤 H A W .typed (zs .0) _ isz .0)) $
+        assigns ! (agg ! (and-then ! (load ! (from ! (stop !)) (look ! 9 refl)) (and-then ! (load ! (from ! (stop !)) (look ! 15 refl)) (no-more !)))) (from ! (stop !)) (init ! 4 refl (LL.lawful D.the-type D′.the-laws 𝓤 H A W .typed (both r (zs .0)) _ (is-both r (zs .0) isr isz) .0)) $
+        returns ! (look ! 4 refl) $
+        move ! (4 ∷ 5 ∷ 6 ∷ 7 ∷ 8 ∷ 0 ∷ 9 ∷ 10 ∷ 11 ∷ 12 ∷ 13 ∷ 14 ∷ 15 ∷ 16 ∷ []) $
+        frees-all ! 0 (full _ ∷ full _ ∷ full _ ∷ full _ ∷ full _ ∷ full _ ∷ full _ ∷ full _ ∷ full _ ∷ full _ ∷ full _ ∷ full _ ∷ full _ ∷ []) refl $
         keep ! (0 ∷ 2 ∷ 1 ∷ []) $
-        by ! (exits r (zs .0) (zs .1 .0) (zs .1 .1 .0) isr isz e e₁ e₂)))))))))))))))))))))))))
+        by ! (exits r (zs .0) (zs .1 .0) (zs .1 .1 .0) isr isz e e₁ e₂)))))))))))))
 
 -- ------------------------------------------------------------------ it meets its contract
 

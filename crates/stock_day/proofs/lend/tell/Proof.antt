@@ -19,7 +19,7 @@ use contract.Monad.{Fun, fact}
 use contract.Running.{givenOf, tables, tablesOf}
 use types.Kit.{Given, Item, ‵, raw, some, later, given, _⊛_, ⋆, _$_, _∵_, !, qed, by, move, keep, drop as let-go, use1, use3, split, join, pick, rewrite, check, learn, fsplit, fjoin, fpick, fpack, feqL, suffices, frame, await, done}
 use types.Tokens.{lft-new, lft-end}
-use types.Run.{look, init, forget, stop, hop, fld, from, load, addr, of-opd, and-then, no-more, assigns, land, returns, enter, alloc1, alloc0, params1, pass1, pass0, free1, free0}
+use types.Run.{look, init, stop, hop, fld, from, load, addr, of-opd, and-then, no-more, assigns, land, returns, enter, params1, pass1, pass0}
 use types.Part.{agg, whole, sub, look-in}
 use types.SemTy.{Body}
 use sound.WpLaws.{FmC, fmOf, WpFn-mono}
@@ -56,6 +56,9 @@ use Rattle.stock.specs.View.{bytes, Tells}
 use Rattle.stock.specs.declared.Told.{Told}
 use Rattle.stock.proofs.Told as D
 use Rattle.stock.proofs.Told.Laws as D′
+use Rattle.book.proofs.Locals.{opens-all, frees-all}
+use Rattle.book.proofs.Locals.Left.{full}
+use Rattle.book.proofs.Values.{message-val, message-vals, message-tells, message-typed}
 use Rattle.book.proofs.tell_one as g
 use Rattle.book.proofs.tell_one.Symbol as g-def
 use Rattle.book.proofs.tell_one.Symbol.{name as #step}
@@ -111,7 +114,7 @@ module _ {M : Type 1} (𝓤 : URA M) (H : Heap 𝓤) (A : Atoms 𝓤) (W : Given
 -- ------------------------------------------------------------------ what is lent and what comes back
 
 module _ {M : Type 1} (𝓤 : URA M) (H : Heap 𝓤) (A : Atoms 𝓤) (W : Given 𝓤 H A) (at-mem : Memory → SProp 𝓤) (run : Routine → Fun 𝓤) (κ₁ κ₂ : Lft) (q₁ q₂ : Share) (h : Record) (was : IsT h)
-    (x₁ x₂ : RefT (List ℕ)) (x₃ : Message) (room₁ : Room u32 (length (x₁ .now))) (room₂ : Room u32 (length (x₂ .now))) (x₃-is : Is P.the-row x₃ ((EL.vals P.the-type P′.the-laws) x₃)) where
+    (x₁ x₂ : RefT (List ℕ)) (x₃ : Message) (room₁ : Room u32 (length (x₁ .now))) (room₂ : Room u32 (length (x₂ .now))) (x₃-is : Is P.the-row x₃ (message-vals x₃)) where
   abbrev Arg : Type 0
   Arg = Record × (RefT (List ℕ) × (RefT (List ℕ) × (Message × Unit {0})))
 
@@ -128,7 +131,7 @@ module _ {M : Type 1} (𝓤 : URA M) (H : Heap 𝓤) (A : Atoms 𝓤) (W : Given
   Vss = List Val × (List Val × (List Val × (List Val × Unit {0})))
 
   abbrev at : Vss
-  at = (valT h ∷ [], (s₁ ∷ [], (s₂ ∷ [], (EL.val P.the-type P′.the-laws x₃ ∷ [], tt))))
+  at = (valT h ∷ [], (s₁ ∷ [], (s₂ ∷ [], (message-val x₃ ∷ [], tt))))
 
   abbrev bound : walkOf 𝓤 H A f.ended stayed (f.clauses 𝓤 H A at-mem run) .Ghost
   bound = (((κ₁, (κ₂, tt)), (q₁, (q₂, tt)), tt, x, at), tt)
@@ -159,7 +162,7 @@ module _ {M : Type 1} (𝓤 : URA M) (H : Heap 𝓤) (A : Atoms 𝓤) (W : Given
   x′ l δ = (ref l δ, (x₁, (x₂, (x₃, tt))))
 
   abbrev to-step : ℕ → ℕ → GName → Step 𝓤 H A at-mem run .Ghost
-  to-step l ν δ = (((ν ∷ [], (κ₁, (κ₂, tt))), (fullShare, (q₁, (q₂, tt))), tt, x′ l δ, (vptr l 0 ∷ [], (s₁ ∷ [], (s₂ ∷ [], (EL.val P.the-type P′.the-laws x₃ ∷ [], tt))))), tt)
+  to-step l ν δ = (((ν ∷ [], (κ₁, (κ₂, tt))), (fullShare, (q₁, (q₂, tt))), tt, x′ l δ, (vptr l 0 ∷ [], (s₁ ∷ [], (s₂ ∷ [], (message-val x₃ ∷ [], tt))))), tt)
 
   abbrev before : ℕ → ℕ → GName → List (Item 𝓤)
   before l ν δ = (‵ (flft (ν ∷ []) fullShare) ⊛ tokens) ∷ own₀ l ν δ ∷ (own₁ ⊛ own₂) ∷ []
@@ -192,7 +195,7 @@ module _ {M : Type 1} (𝓤 : URA M) (H : Heap 𝓤) (A : Atoms 𝓤) (W : Given
   -- ---------------------------------------------------------------- the walk
 
   module _ (C : Calls 𝓤 H) (Λ : Loops 𝓤 H) (fm : FmC 𝓤 H (W .laws) C) (known : Triple 𝓤 (C #step) (Step 𝓤 H A at-mem run)) where
-    walk : ent 𝓤 (onEntry 𝓤 H A f.signature (κ₁, (κ₂, tt)) (q₁, (q₂, tt)) x at) (WpFn 𝓤 H C Λ code.function (valT h ∷ s₁ ∷ s₂ ∷ EL.val P.the-type P′.the-laws x₃ ∷ []) Post)
+    walk : ent 𝓤 (onEntry 𝓤 H A f.signature (κ₁, (κ₂, tt)) (q₁, (q₂, tt)) x at) (WpFn 𝓤 H C Λ code.function (valT h ∷ s₁ ∷ s₂ ∷ message-val x₃ ∷ []) Post)
     walk =
         qed W (tokens ∷ ‵ (owns (T.the-row ∷ MutSlice (named 0) κ₁ u32 ∷ MutSlice (named 1) κ₂ u32 ∷ P.the-row ∷ []) x at) ∷ []) ∵
         move ! (1 ∷ []) $
@@ -205,35 +208,35 @@ module _ {M : Type 1} (𝓤 : URA M) (H : Heap 𝓤) (A : Atoms 𝓤) (W : Given
         fsplit ! $
         let-go ! $
         let-go ! $
-        enter ! C Λ code.function (valT h ∷ s₁ ∷ s₂ ∷ EL.val P.the-type P′.the-laws x₃ ∷ []) _ $
-        alloc1 ! (λ l₀. alloc1 ! (λ l₁. alloc1 ! (λ l₂. alloc1 ! (λ l₃. alloc1 ! (λ l₄. alloc1 ! (λ l₅. alloc1 ! (λ l₆. alloc1 ! (λ l₇. alloc1 ! (λ l₈. alloc1 ! (λ l₉. alloc1 ! (λ l₁₀. alloc1 ! (λ l₁₁. alloc1 ! (λ l₁₂.
-        alloc0 ! $ params1 ! $
-        pass1 ! (init ! 22 refl (LL.lawful T.the-type T′.the-laws 𝓤 H A W .typed h _ was .0)) $
-        pass1 ! (init ! 20 refl (tt, (tt, (record { fits = room₁ .0 }, tt)))) $
-        pass1 ! (init ! 18 refl (tt, (tt, (record { fits = room₂ .0 }, tt)))) $
-        pass1 ! (init ! 16 refl (EL.lawful P.the-type P′.the-laws 𝓤 H A W tt .typed x₃ _ x₃-is .0)) $
+        enter ! C Λ code.function (valT h ∷ s₁ ∷ s₂ ∷ message-val x₃ ∷ []) _ $
+        opens-all ! (λ l₀ l₁ l₂ l₃ l₄ l₅ l₆ l₇ l₈ l₉ l₁₀ l₁₁ l₁₂.
+        params1 ! $
+        pass1 ! (init ! 1 refl (LL.lawful T.the-type T′.the-laws 𝓤 H A W .typed h _ was .0)) $
+        pass1 ! (init ! 2 refl (tt, (tt, (record { fits = room₁ .0 }, tt)))) $
+        pass1 ! (init ! 3 refl (tt, (tt, (record { fits = room₂ .0 }, tt)))) $
+        pass1 ! (init ! 4 refl (message-typed 𝓤 H A W x₃ x₃-is)) $
         pass0 ! $
-        assigns ! (of-opd ! (load ! (from ! (stop !)) (look ! 22 refl))) (from ! (stop !)) (init ! 14 refl (LL.lawful T.the-type T′.the-laws 𝓤 H A W .typed h _ was .0)) $
-        assigns ! (addr ! (from ! (stop !))) (from ! (stop !)) (init ! 10 refl (tt, tt)) $
-        assigns ! (addr ! (from ! (fld ! refl (hop ! (look-in ! 20 (sub ! 0 refl (whole !))) (stop !))))) (from ! (stop !)) (init ! 8 refl (tt, tt)) $
-        assigns ! (agg ! (and-then ! (load ! (from ! (stop !)) (look ! 8 refl)) (and-then ! (load ! (from ! (fld ! refl (stop !))) (look-in ! 20 (sub ! 1 refl (whole !)))) (no-more !)))) (from ! (stop !)) (init ! 6 refl (tt, (tt, (record { fits = room₁ .0 }, tt)))) $
-        assigns ! (addr ! (from ! (fld ! refl (hop ! (look-in ! 18 (sub ! 0 refl (whole !))) (stop !))))) (from ! (stop !)) (init ! 4 refl (tt, tt)) $
-        assigns ! (agg ! (and-then ! (load ! (from ! (stop !)) (look ! 4 refl)) (and-then ! (load ! (from ! (fld ! refl (stop !))) (look-in ! 18 (sub ! 1 refl (whole !)))) (no-more !)))) (from ! (stop !)) (init ! 2 refl (tt, (tt, (record { fits = room₂ .0 }, tt)))) $
+        assigns ! (of-opd ! (load ! (from ! (stop !)) (look ! 1 refl))) (from ! (stop !)) (init ! 5 refl (LL.lawful T.the-type T′.the-laws 𝓤 H A W .typed h _ was .0)) $
+        assigns ! (addr ! (from ! (stop !))) (from ! (stop !)) (init ! 7 refl (tt, tt)) $
+        assigns ! (addr ! (from ! (fld ! {d = 0} refl (hop ! (look-in ! 2 (sub ! 0 {d = 0} refl (whole !))) (stop !))))) (from ! (stop !)) (init ! 8 refl (tt, tt)) $
+        assigns ! (agg ! (and-then ! (load ! (from ! (stop !)) (look ! 8 refl)) (and-then ! (load ! (from ! (fld ! {d = 8} refl (stop !))) (look-in ! 2 (sub ! 1 {d = 8} refl (whole !)))) (no-more !)))) (from ! (stop !)) (init ! 9 refl (tt, (tt, (record { fits = room₁ .0 }, tt)))) $
+        assigns ! (addr ! (from ! (fld ! {d = 0} refl (hop ! (look-in ! 3 (sub ! 0 {d = 0} refl (whole !))) (stop !))))) (from ! (stop !)) (init ! 10 refl (tt, tt)) $
+        assigns ! (agg ! (and-then ! (load ! (from ! (stop !)) (look ! 10 refl)) (and-then ! (load ! (from ! (fld ! {d = 8} refl (stop !))) (look-in ! 3 (sub ! 1 {d = 8} refl (whole !)))) (no-more !)))) (from ! (stop !)) (init ! 11 refl (tt, (tt, (record { fits = room₂ .0 }, tt)))) $
         lft-new ! tt (λ ν.
-        move ! (15 ∷ []) $
+        move ! (6 ∷ []) $
         use1 W (‵ (mem T.the-row .lies h l₅ 0)) (cell-in 𝓤 H A W h l₅ was) $
         use1 W (later (some (λ (δ : GName). own₀ l₅ ν δ ⊛ ‵ (flent (ν ∷ []) (Body (mem T.the-row) l₅ 0 δ))))) (lends-ref 𝓤 H A W T.the-row (named 0) (ν ∷ []) h l₅ 0) $
         await ! tt $
         pick ! (λ δ.
         split ! $
-        move ! (29 ∷ 28 ∷ []) $
+        move ! (17 ∷ 16 ∷ []) $
         join ! $
-        move ! (3 ∷ 29 ∷ []) $
+        move ! (3 ∷ 17 ∷ []) $
         join ! $
         move ! (0 ∷ 2 ∷ 1 ∷ []) $
         use3 W (raw (Step 𝓤 H A at-mem run .pre (to-step l₅ ν δ))) (goes-step l₅ ν δ) $
-        -- [pre; lent; _12; _12+; _11; _11+; _10; _10+; _9; _9+; _8; _8+; _7; _7+; _6; _6+; _5+; _4; _4+; _3; _3+; _2; _2+; _1; _1+; _0; _0+]
-        calls-at ! fm (Step 𝓤 H A at-mem run) known (to-step l₅ ν δ) (and-then ! (load ! (from ! (stop !)) (look ! 12 refl)) (and-then ! (load ! (from ! (stop !)) (look ! 8 refl)) (and-then ! (load ! (from ! (stop !)) (look ! 4 refl)) (and-then ! (load ! (from ! (stop !)) (look ! 17 refl)) (no-more !))))) (λ v.
+        -- [pre; lent; _0; _1; _2; _3; _4; _6; _7; _8; _9; _10; _11; _12; dies]
+        calls-at ! fm (Step 𝓤 H A at-mem run) known (to-step l₅ ν δ) (and-then ! (load ! (from ! (stop !)) (look ! 8 refl)) (and-then ! (load ! (from ! (stop !)) (look ! 10 refl)) (and-then ! (load ! (from ! (stop !)) (look ! 12 refl)) (and-then ! (load ! (from ! (stop !)) (look ! 6 refl)) (no-more !))))) (λ v.
         use1 W (later (some (λ (r : Answer). ((‵ (flft (ν ∷ []) fullShare) ⊛ tokens) ⊛ ‵ (N.the-row .own r (v ∷ []))) ⊛ raw (ensured 𝓤 H A g.ended (g.clauses 𝓤 H A at-mem run) (ν ∷ [], (κ₁, (κ₂, tt))) (x′ l₅ δ) tt r)))) (id⊢ 𝓤 _) $
         await ! tt $
         pick ! (λ r.
@@ -264,8 +267,8 @@ module _ {M : Type 1} (𝓤 : URA M) (H : Heap 𝓤) (A : Atoms 𝓤) (W : Given
         rewrite ! 0 (λ (us : List Val). ‵ (N.the-row .own r us)) (LL.tells N.the-type N′.the-laws r (v ∷ []) is) refl $
         peeks ! N.the-row (Is N.the-row) (shows 𝓤 H A N.the-row) r (valN r ∷ []) (λ isr.
         let-go ! $
-        land ! (from ! (stop !)) (init ! 17 refl (LL.lawful N.the-type N′.the-laws 𝓤 H A W .typed r _ is .0)) $
-        rewrite ! 17 (λ (u : Val). ‵ (fat fullShare N′.mir l₆ 0 u)) (ap only (LL.tells N.the-type N′.the-laws r (v ∷ []) is)) refl $
+        land ! (from ! (stop !)) (init ! 10 refl (LL.lawful N.the-type N′.the-laws 𝓤 H A W .typed r _ is .0)) $
+        rewrite ! 10 (λ (u : Val). ‵ (fat fullShare N′.mir l₆ 0 u)) (ap only (LL.tells N.the-type N′.the-laws r (v ∷ []) is)) refl $
         split ! $
         lft-end ! tt $
         move ! (0 ∷ 5 ∷ 4 ∷ []) $
@@ -273,21 +276,21 @@ module _ {M : Type 1} (𝓤 : URA M) (H : Heap 𝓤) (A : Atoms 𝓤) (W : Given
         await ! tt $
         use1 W (given (IsT (zs .0)) (‵ (fat fullShare T′.mir l₅ 0 (valT (zs .0))))) (cell-out 𝓤 H A W (zs .0) l₅) $
         learn ! (λ isz.
-        -- [_5; toks; final2; final1; _12; _12+; _11; _11+; _10; _10+; _9; _9+; _8; _8+; _7; _7+; _6; _6+; _5+; _4; _4+; _3; _3+; _2; _2+; _1; _1+; _0; _0+]
-        assigns ! (of-opd ! (load ! (from ! (stop !)) (look ! 0 refl))) (from ! (stop !)) (init ! 4 refl (LL.lawful T.the-type T′.the-laws 𝓤 H A W .typed (zs .0) _ isz .0)) $
-        assigns ! (agg ! (and-then ! (load ! (from ! (stop !)) (look ! 16 refl)) (and-then ! (load ! (from ! (stop !)) (look ! 4 refl)) (no-more !)))) (from ! (stop !)) (init ! 27 refl (LL.lawful D.the-type D′.the-laws 𝓤 H A W .typed (both r (zs .0)) _ (is-both r (zs .0) isr isz) .0)) $
-        returns ! (look ! 27 refl) $
-        forget ! 0 refl $ forget ! 4 refl $ forget ! 6 refl $ forget ! 8 refl $ forget ! 10 refl $ forget ! 12 refl $ forget ! 14 refl $ forget ! 16 refl $ forget ! 19 refl $ forget ! 21 refl $ forget ! 23 refl $ forget ! 25 refl $ forget ! 27 refl $
-        move ! (27 ∷ 28 ∷ []) $ free1 ! $ move ! (25 ∷ 26 ∷ []) $ free1 ! $ move ! (23 ∷ 24 ∷ []) $ free1 ! $ move ! (21 ∷ 22 ∷ []) $ free1 ! $ move ! (19 ∷ 20 ∷ []) $ free1 ! $ move ! (0 ∷ 18 ∷ []) $ free1 ! $ move ! (15 ∷ 16 ∷ []) $ free1 ! $ move ! (13 ∷ 14 ∷ []) $ free1 ! $ move ! (11 ∷ 12 ∷ []) $ free1 ! $ move ! (9 ∷ 10 ∷ []) $ free1 ! $ move ! (7 ∷ 8 ∷ []) $ free1 ! $ move ! (5 ∷ 6 ∷ []) $ free1 ! $ move ! (3 ∷ 4 ∷ []) $ free1 ! $ free0 ! $
+        -- [_5; toks; final2; final1; _0; _1; _2; _3; _4; _6; _7; _8; _9; _10; _11; _12; dies]
+        assigns ! (of-opd ! (load ! (from ! (stop !)) (look ! 0 refl))) (from ! (stop !)) (init ! 15 refl (LL.lawful T.the-type T′.the-laws 𝓤 H A W .typed (zs .0) _ isz .0)) $
+        assigns ! (agg ! (and-then ! (load ! (from ! (stop !)) (look ! 9 refl)) (and-then ! (load ! (from ! (stop !)) (look ! 15 refl)) (no-more !)))) (from ! (stop !)) (init ! 4 refl (LL.lawful D.the-type D′.the-laws 𝓤 H A W .typed (both r (zs .0)) _ (is-both r (zs .0) isr isz) .0)) $
+        returns ! (look ! 4 refl) $
+        move ! (4 ∷ 5 ∷ 6 ∷ 7 ∷ 8 ∷ 0 ∷ 9 ∷ 10 ∷ 11 ∷ 12 ∷ 13 ∷ 14 ∷ 15 ∷ 16 ∷ []) $
+        frees-all ! 0 (full _ ∷ full _ ∷ full _ ∷ full _ ∷ full _ ∷ full _ ∷ full _ ∷ full _ ∷ full _ ∷ full _ ∷ full _ ∷ full _ ∷ full _ ∷ []) refl $
         keep ! (0 ∷ 2 ∷ 1 ∷ []) $
-        by ! (exits r (zs .0) (zs .1 .0) (zs .1 .1 .0) isr isz e e₁ e₂)))))))))))))))))))))))))
+        by ! (exits r (zs .0) (zs .1 .0) (zs .1 .1 .0) isr isz e e₁ e₂)))))))))))))
 
 -- ------------------------------------------------------------------ it meets its contract
 
 module _ {M : Type 1} (𝓤 : URA M) (H : Heap 𝓤) (A : Atoms 𝓤) (W : Given 𝓤 H A) (at-mem : Memory → SProp 𝓤) (run : Routine → Fun 𝓤) where
   walks : (C : Calls 𝓤 H) (Λ : Loops 𝓤 H) → FmC 𝓤 H (W .laws) C → Triple 𝓤 (C #step) (Step 𝓤 H A at-mem run) → Walks 𝓤 H A f.ended stayed (WpFn 𝓤 H C Λ code.function) (f.clauses 𝓤 H A at-mem run)
-  walks C Λ fm known = walked 𝓤 H A f.ended stayed (f.clauses 𝓤 H A at-mem run) (WpFn 𝓤 H C Λ code.function) (λ κs. (LL.vals T.the-type T′.the-laws, (slice-vals, (slice-vals, ((EL.vals P.the-type P′.the-laws), tt)))))
-      (λ κs. (LL.tells T.the-type T′.the-laws, (mut-slice-tells (named 0) (κs .0) u32, (mut-slice-tells (named 1) (κs .1 .0) u32, (EL.tells P.the-type P′.the-laws, tt)))))
+  walks C Λ fm known = walked 𝓤 H A f.ended stayed (f.clauses 𝓤 H A at-mem run) (WpFn 𝓤 H C Λ code.function) (λ κs. (LL.vals T.the-type T′.the-laws, (slice-vals, (slice-vals, (message-vals, tt)))))
+      (λ κs. (LL.tells T.the-type T′.the-laws, (mut-slice-tells (named 0) (κs .0) u32, (mut-slice-tells (named 1) (κs .1 .0) u32, (message-tells, tt)))))
       (λ κs qs bounds a _ are. via 𝓤 _ (fst∗ 𝓤 _ (emp 𝓤)) (walk 𝓤 H A W at-mem run (κs .0) (κs .1 .0) (qs .0) (qs .1 .0) (a .0) (are .0)
       (a .1 .0) (a .1 .1 .0) (a .1 .1 .1 .0) (are .1 .0 .0 .1) (are .1 .1 .0 .0 .1) (are .1 .1 .1 .0) C Λ fm known))
 

@@ -1,0 +1,4 @@
+pub mod Parts
+pub mod Setup
+pub mod Words
+pub mod Laws

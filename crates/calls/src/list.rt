@@ -1,0 +1,101 @@
+// The list of setups: four numbers for each stock.
+ghost use mathlib.Core.Path.{_≡_};
+ghost use mathlib.Core.Bool.{false};
+ghost use mathlib.Core.List.{foldl};
+ghost use Prim.Native.Nat.{_*_};
+ghost use lib.ListN.{length, getD};
+ghost use Rattle.rules.specs.Book.{noSetup};
+ghost use Rattle.rules.specs.Numbers.{orBadSetup};
+ghost use Rattle.calls.specs.Setup.{setupsOf, recordOf, setupNumber};
+use crate::shape;
+use rules::Course;
+use rules::Quotes;
+use rules::Reference;
+use rules::Setup;
+use rules::Stock;
+use rules::WAITING;
+use stock::Record;
+
+// The setup of stock i; where the list has none for it, one that no call reads.
+pub(crate) fn setup_at(list: &[u32], i: usize) -> Setup
+    ensures { λ r. ⌜ r ≡ getD (setupsOf (now (list .entry))) i noSetup ⌝ }
+{
+    if list.len() / 4 <= i {
+        return Setup {
+            tier: 1,
+            leverage: 1,
+            primary: 0,
+            close: 1,
+        };
+    }
+    let at = 4 * i;
+    Setup {
+        tier: list[at],
+        leverage: list[at + 1],
+        primary: list[at + 2],
+        close: list[at + 3],
+    }
+}
+
+// Whether one of the setups is out of range.
+fn any_bad(list: &[u32], stocks: usize) -> bool
+    requires { ⌜ length (now list) ≡ 4 * stocks ⌝ }
+    ensures { λ r. ⌜ r ≡ foldl orBadSetup false (setupsOf (now (list .entry))) ⌝ }
+{
+    let mut bad = false;
+    for i in 0..stocks {
+        let u = setup_at(list, i);
+        let this = judge::bad_setup(u);
+        bad = bad | this;
+    }
+    bad
+}
+
+// The number that a setup is answered.
+pub(crate) fn number_of(stocks: usize, times: usize, prices: usize, end: u32, list: &[u32]) -> u32
+    ensures { λ r. ⌜ r ≡ setupNumber stocks times prices end (now (list .entry)) ⌝ }
+{
+    if shape::bad_shape(stocks, times, prices) {
+        return 1;
+    }
+    let n = list.len();
+    if n != 4 * stocks {
+        return 1;
+    }
+    let end_is_bad = judge::bad_end(end);
+    let setup_is_bad = any_bad(list, stocks);
+    if end_is_bad | setup_is_bad {
+        return 2;
+    }
+    0
+}
+
+// The record of a stock that is set up and holds no trade.
+pub(crate) fn started(setup: Setup, end: u32) -> Record
+    ensures { λ r. ⌜ r ≡ recordOf end setup ⌝ }
+{
+    let course = Course {
+        state: WAITING,
+        clock: 0,
+        early: 1,
+        entry: 0,
+        pause: 0,
+    };
+    let reference = Reference {
+        price: 0,
+        start: 0,
+        hold: 0,
+    };
+    let quotes = Quotes {
+        bids: [0; 16],
+        offers: [0; 16],
+    };
+    let stock = Stock {
+        setup,
+        end,
+        course,
+        reference,
+        quotes,
+    };
+    Record { stock, count: 0 }
+}
