@@ -162,6 +162,8 @@ class Worker:
 def attempted(edits, logs=None, unfit=applies):
     """Tries the edits that are not unfit, some at a time: each with what was said of it, in their order. A folder for logs gets what each
     check printed."""
+    if logs:
+        Path(logs).mkdir(parents=True, exist_ok=True)
     with tempfile.TemporaryDirectory() as folder, ThreadPoolExecutor(WORKERS) as pool:
         free = queue.Queue()
         for number in range(min(WORKERS, len(edits))):

@@ -70,11 +70,11 @@ module _ {M : Type 1} (𝓤 : URA M) (H : Heap 𝓤) where
           via 𝓤 (sep 𝓤 (⋆ 𝓤 H A Δ) (sep 𝓤 (Fr 𝓤 H E) (⋆ 𝓤 H A Γ))) (monoR 𝓤 (⋆ 𝓤 H A Δ) back)
           (via 𝓤 (sep 𝓤 (Fr 𝓤 H E) (sep 𝓤 (⋆ 𝓤 H A Δ) (⋆ 𝓤 H A Γ))) (swap∗ 𝓤 (⋆ 𝓤 H A Δ) (Fr 𝓤 H E) (⋆ 𝓤 H A Γ))
           (via 𝓤 (sep 𝓤 (Fr 𝓤 H E) P) (monoR 𝓤 (Fr 𝓤 H E) (via 𝓤 (⋆ 𝓤 H A (Δ ++ Γ)) (++⊢ 𝓤 H A Δ Γ) h)) (rel-in 𝓤 H E P))) where
-        back : ent 𝓤 (⋆ 𝓤 H A (cells E vs ++ (raw (Dies 𝓤 H E) ∷ Γ))) (sep 𝓤 (Fr 𝓤 H E) (⋆ 𝓤 H A Γ))
-        back =
-            via 𝓤 (sep 𝓤 (⋆ 𝓤 H A (cells E vs)) (⋆ 𝓤 H A (raw (Dies 𝓤 H E) ∷ Γ))) (⊢++ 𝓤 H A (cells E vs) (raw (Dies 𝓤 H E) ∷ Γ))
-            (via 𝓤 (sep 𝓤 (Rooms 𝓤 H E) (sep 𝓤 (Dies 𝓤 H E) (⋆ 𝓤 H A Γ))) (mono∗ 𝓤 (rooms-out E vs) (pop 𝓤 H A (raw (Dies 𝓤 H E)) Γ))
-            (via 𝓤 (sep 𝓤 (sep 𝓤 (Rooms 𝓤 H E) (Dies 𝓤 H E)) (⋆ 𝓤 H A Γ)) (assoc′ 𝓤 (Rooms 𝓤 H E) (Dies 𝓤 H E) (⋆ 𝓤 H A Γ)) (monoL 𝓤 (⋆ 𝓤 H A Γ) (fr-join 𝓤 H E))))
+            back : ent 𝓤 (⋆ 𝓤 H A (cells E vs ++ (raw (Dies 𝓤 H E) ∷ Γ))) (sep 𝓤 (Fr 𝓤 H E) (⋆ 𝓤 H A Γ))
+            back =
+                via 𝓤 (sep 𝓤 (⋆ 𝓤 H A (cells E vs)) (⋆ 𝓤 H A (raw (Dies 𝓤 H E) ∷ Γ))) (⊢++ 𝓤 H A (cells E vs) (raw (Dies 𝓤 H E) ∷ Γ))
+                (via 𝓤 (sep 𝓤 (Rooms 𝓤 H E) (sep 𝓤 (Dies 𝓤 H E) (⋆ 𝓤 H A Γ))) (mono∗ 𝓤 (rooms-out E vs) (pop 𝓤 H A (raw (Dies 𝓤 H E)) Γ))
+                (via 𝓤 (sep 𝓤 (sep 𝓤 (Rooms 𝓤 H E) (Dies 𝓤 H E)) (⋆ 𝓤 H A Γ)) (assoc′ 𝓤 (Rooms 𝓤 H E) (Dies 𝓤 H E) (⋆ 𝓤 H A Γ)) (monoL 𝓤 (⋆ 𝓤 H A Γ) (fr-join 𝓤 H E))))
 
     -- the entries before and from entry k on
     abbrev pub before : ℕ → List (Item 𝓤) → List (Item 𝓤)
@@ -116,6 +116,6 @@ module _ {M : Type 1} {𝓤 : URA M} {H : Heap 𝓤} {A : Atoms 𝓤} {K : Type 
   pub frees-all : K → (k : ℕ) (vs : List Left) {E : Env 𝓤 H} {g : Goal 𝓤 H} → onward 𝓤 H A k Γ ≡ cells 𝓤 H A E vs ++ (raw (Dies 𝓤 H E) ∷ behind 𝓤 H A E (onward 𝓤 H A k Γ)) → Step K W (before 𝓤 H A k Γ ++ behind 𝓤 H A E (onward 𝓤 H A k Γ)) g Γ (frees E g)
   frees-all t k vs {E} {g} e = step (λ s. record {
     prf = via 𝓤 (sep 𝓤 (⋆ 𝓤 H A (before 𝓤 H A k Γ)) (⋆ 𝓤 H A (cells 𝓤 H A E vs ++ (raw (Dies 𝓤 H E) ∷ behind 𝓤 H A E (onward 𝓤 H A k Γ)))))
-      (subst (λ (Δ : List (Item 𝓤)). ent 𝓤 (⋆ 𝓤 H A Γ) (sep 𝓤 (⋆ 𝓤 H A (before 𝓤 H A k Γ)) (⋆ 𝓤 H A Δ))) e (parted 𝓤 H A k Γ))
-      (freed 𝓤 H A W (before 𝓤 H A k Γ) E vs (behind 𝓤 H A E (onward 𝓤 H A k Γ)) (aim 𝓤 H g) (s .prf));
+        (subst (λ (Δ : List (Item 𝓤)). ent 𝓤 (⋆ 𝓤 H A Γ) (sep 𝓤 (⋆ 𝓤 H A (before 𝓤 H A k Γ)) (⋆ 𝓤 H A Δ))) e (parted 𝓤 H A k Γ))
+        (freed 𝓤 H A W (before 𝓤 H A k Γ) E vs (behind 𝓤 H A E (onward 𝓤 H A k Γ)) (aim 𝓤 H g) (s .prf));
   })

@@ -1,6 +1,6 @@
 -- The list of setups by its places, and the loops that go over it.
 -- Assumes nothing.
-use Prim.Native.Nat.{ℕ, zero, suc, _+_, _*_, _≤_, _<_}
+use Prim.Native.Nat.{ℕ, zero, suc, _+_, _*_, _/_, _≤_, _<_}
 use mathlib.Core.Bool.{Bool, true, false, _||_}
 use mathlib.Core.List.{List, [], _∷_, foldl}
 use mathlib.Core.Path.{_≡_, refl, sym, _∙_, ap}
@@ -41,7 +41,7 @@ past : (k m a b c d : ℕ) (rest : List ℕ) → k ≡ suc (suc (suc (suc m))) �
 past k m a b c d rest e = rw e
 
 -- the setup of stock i is made of them
-pub setup-at : (i : ℕ) (list : List ℕ) → 4 * i + 4 ≤ length list → setupIn list i ≡ getD (setupsOf list) i noSetup
+setup-at : (i : ℕ) (list : List ℕ) → 4 * i + 4 ≤ length list → setupIn list i ≡ getD (setupsOf list) i noSetup
 unfolding setupsOf
 setup-at i [] h = absurd (omega arith)
 setup-at i (_ ∷ []) h = absurd (omega arith)
@@ -58,7 +58,7 @@ setup-at (suc i) (a ∷ b ∷ c ∷ d ∷ rest) h =
     (setup-at i rest (omega arith))
 
 -- where they do not, there is none
-pub no-setup : (i : ℕ) (list : List ℕ) → length list < 4 * i + 4 → getD (setupsOf list) i noSetup ≡ noSetup
+no-setup : (i : ℕ) (list : List ℕ) → length list < 4 * i + 4 → getD (setupsOf list) i noSetup ≡ noSetup
 unfolding setupsOf
 no-setup i [] h = refl
 no-setup i (_ ∷ []) h = refl
@@ -66,6 +66,13 @@ no-setup i (_ ∷ _ ∷ []) h = refl
 no-setup i (_ ∷ _ ∷ _ ∷ []) h = refl
 no-setup zero (_ ∷ _ ∷ _ ∷ _ ∷ rest) h = absurd (omega arith)
 no-setup (suc i) (_ ∷ _ ∷ _ ∷ _ ∷ rest) h = no-setup i rest (omega arith)
+
+-- by the number of setups that the list has
+pub setup-here : (i : ℕ) (list : List ℕ) → i < length list / 4 → setupIn list i ≡ getD (setupsOf list) i noSetup
+setup-here i list h = setup-at i list (omega arith)
+
+pub setup-past : (i : ℕ) (list : List ℕ) → length list / 4 ≤ i → noSetup ≡ getD (setupsOf list) i noSetup
+setup-past i list h = sym (no-setup i list (omega arith))
 
 pub setups-are : SetupsAre
 setups-are list stocks e = (setups-length stocks list e, λ i l. sym (setup-at i list (four-more i stocks (length list) l e)))

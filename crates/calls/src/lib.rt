@@ -66,13 +66,7 @@ pub fn zero_notice(number: u32) -> Notice
 }
 
 // Tells the record of a stock a message: its 512 places of each array are lent to it.
-pub fn told_at(
-    r: Record,
-    times: &mut [u32],
-    prices: &mut [u32],
-    stock: u32,
-    m: Message,
-) -> Told
+pub fn told_at(r: Record, times: &mut [u32], prices: &mut [u32], stock: u32, m: Message) -> Told
     ensures { λ x. ⌜ ToldAt stock m r (now (times .entry)) (now (prices .entry)) x (now (times .exit)) (now (prices .exit)) ⌝ }
 {
     if shape::is_short(times.len(), prices.len(), stock) {

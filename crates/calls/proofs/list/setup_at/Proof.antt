@@ -1,14 +1,13 @@
-use mathlib.Core.Path.{sym}
 use native.Mathlib.Omega.{arith}
-use Rattle.calls.proofs.Setups.{setup-at, no-setup}
+use Rattle.calls.proofs.Setups.{setup-here, setup-past}
 use Rattle.calls.proofs.list.setup_at.Statement.{statement}
 use Rattle.calls.proofs.list.setup_at.Tie as tie
 
 returns : tie.Need-returns
-returns c = sym (no-setup _ _ (omega arith))
+returns c = search setup-past
 
 returns-2 : tie.Need-returns-2
-returns-2 c = setup-at _ _ (omega arith)
+returns-2 c = search setup-here
 
 pub setup-at-spec : {M : Type 1} → statement M
 setup-at-spec =
