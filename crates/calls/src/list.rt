@@ -2,7 +2,7 @@
 ghost use mathlib.Core.Path.{_≡_};
 ghost use mathlib.Core.Bool.{false};
 ghost use mathlib.Core.List.{foldl};
-ghost use Prim.Native.Nat.{_*_};
+ghost use Prim.Native.Nat.{_*_, _/_, _<_};
 ghost use lib.ListN.{length, getD};
 ghost use Rattle.rules.specs.Book.{noSetup};
 ghost use Rattle.rules.specs.Numbers.{orBadSetup};
@@ -16,24 +16,32 @@ use rules::Stock;
 use rules::WAITING;
 use stock::Record;
 
-// The setup of stock i; where the list has none for it, one that no call reads.
-pub(crate) fn setup_at(list: &[u32], i: usize) -> Setup
+// The setup of stock i, which the list has.
+fn setup_of(list: &[u32], i: usize) -> Setup
+    requires { ⌜ i < length (now list) / 4 ⌝ }
     ensures { λ r. ⌜ r ≡ getD (setupsOf (now (list .entry))) i noSetup ⌝ }
 {
-    if list.len() / 4 <= i {
-        return Setup {
-            tier: 1,
-            leverage: 1,
-            primary: 0,
-            close: 1,
-        };
-    }
     let at = 4 * i;
     Setup {
         tier: list[at],
         leverage: list[at + 1],
         primary: list[at + 2],
         close: list[at + 3],
+    }
+}
+
+// The same of any stock; where the list has no setup for it, one that no call reads.
+pub(crate) fn setup_at(list: &[u32], i: usize) -> Setup
+    ensures { λ r. ⌜ r ≡ getD (setupsOf (now (list .entry))) i noSetup ⌝ }
+{
+    if i < list.len() / 4 {
+        return setup_of(list, i);
+    }
+    Setup {
+        tier: 1,
+        leverage: 1,
+        primary: 0,
+        close: 1,
     }
 }
 
@@ -44,7 +52,7 @@ fn any_bad(list: &[u32], stocks: usize) -> bool
 {
     let mut bad = false;
     for i in 0..stocks {
-        let u = setup_at(list, i);
+        let u = setup_of(list, i);
         let this = judge::bad_setup(u);
         bad = bad | this;
     }
