@@ -65,7 +65,8 @@ pub fn zero_notice(number: u32) -> Notice
     }
 }
 
-// Tells the record of a stock a message: its 512 places of each array are lent to it.
+// Tells the record of a stock a message: its 512 places of each array are lent to it. Where an array ends before
+// them, 1 with zeros.
 pub fn told_at(r: Record, times: &mut [u32], prices: &mut [u32], stock: u32, m: Message) -> Told
     ensures { λ x. ⌜ ToldAt stock m r (now (times .entry)) (now (prices .entry)) x (now (times .exit)) (now (prices .exit)) ⌝ }
 {
@@ -80,7 +81,7 @@ pub fn told_at(r: Record, times: &mut [u32], prices: &mut [u32], stock: u32, m: 
     r.tell(&mut times[from..to], &mut prices[from..to], m)
 }
 
-// Settles it to a time.
+// Settles it to a time, likewise.
 pub fn settled_at(
     r: Record,
     times: &mut [u32],
@@ -101,7 +102,7 @@ pub fn settled_at(
     r.settle(&mut times[from..to], &mut prices[from..to], time)
 }
 
-// What it shows, with its places lent to be read.
+// What it shows, with its places lent to be read, likewise.
 pub fn read_at(r: Record, times: &[u32], prices: &[u32], stock: u32) -> Answer
     ensures { λ x. ⌜ x ≡ reading (bytes r (part stock (now (times .entry))) (part stock (now (prices .entry)))) ⌝ }
 {
@@ -121,7 +122,7 @@ pub fn setup_answer(stocks: usize, times: usize, prices: usize, end: u32, list: 
     zeros(number)
 }
 
-// The record that the setup of stock i makes.
+// The record that the setup of stock i makes; where the list has none for it, of one that no call reads.
 pub fn started_at(list: &[u32], end: u32, i: usize) -> Record
     ensures { λ r. ⌜ r ≡ recordOf end (getD (setupsOf (now (list .entry))) i noSetup) ⌝ }
 {
