@@ -204,10 +204,7 @@ def leave(w, exits, known, within=False):
 
 def unless_refused(w, p, answer, flag):
     """if answer.NUMBER != 0 { return answer; }: the record is put back as it was"""
-    cell = f"λ (u : Val). ‵ (fat fullShare N′.mir l{sub(answer[1:])} 0 u)"
-    w.rewrite(answer, cell, f"{p['answer']}-number (r .{p['answer']})")
     w.set(flag, f"bin ! {w.load(answer, *p['fields'])} (lit ! tt) tt", "(tt, tt)")
-    w.rewrite(answer, cell, f"sym ({p['answer']}-number (r .{p['answer']}))")
     w.add(f"guarded ! {w.load(flag)}")
     arm = w.fork()
     arm.lam("(λ refused.")

@@ -4,11 +4,11 @@ use Prim.Native.Nat.{ℕ}
 use mathlib.Core.List.{List, map}
 use mathlib.Core.Path.{_≡_}
 use lib.Dec.{eqb}
-use lib.ListN.{length, replicate}
+use lib.ListN.{length}
 use Rattle.forms.specs.Choice.{if_then_else_}
 use Rattle.rules.specs.Numbers.{zeros}
 use Rattle.rules.specs.declared.Answer.{Answer}
-use Rattle.calls.specs.Setup.{setupsOf, recordOf, setupNumber}
+use Rattle.calls.specs.Setup.{setupsOf, recordOf, setupNumber, wiped}
 use Rattle.book.specs.Lent.{Lent, lent, Given}
 
 -- ------------------------------------------------------------------ what a setup gives and leaves
@@ -23,7 +23,7 @@ setting end list b = record {
   answer = zeros (numberOf end list b);
   book =
       if eqb (numberOf end list b) 0 then
-      lent (map (recordOf end) (setupsOf list)) (replicate (length (b .times)) 0) (replicate (length (b .prices)) 0)
+      lent (map (recordOf end) (setupsOf list)) (wiped (b .times)) (wiped (b .prices))
       else b;
 }
 
