@@ -1,13 +1,12 @@
-/* Measures the stack that each function of the library takes of its caller: the bytes below the stack pointer at the call instruction, the
- * return address included.
+/* Measures the stack use of each function of the library: the bytes below the caller's stack pointer at the call instruction, the return
+ * address included.
  *
- * Each call is made on a stack of its own, filled with a pattern, on which nothing runs but `perform` and the function. The stack pointer
- * is noted on the way into the function, so that all of `perform` lies above it: its frame, the room for the answer, the arguments on
- * the stack. The deepest byte without the pattern says how far the function went. A function of a known depth is measured first, and
- * must come out as that.
+ * Each call is made on its own stack, filled with a pattern, on which only `perform` and the function run. The stack pointer is recorded
+ * on entry to the function, so all of `perform` lies above it: its frame, the room for the answer, and the arguments on the stack. The
+ * deepest byte without the pattern shows how far the function went. A function of known depth is measured first, to check the method.
  *
- * The table has the most of all calls of a function: with 0 and with 512 trades held, and the longest ways, which are a limit state
- * that ends and begins again, a trade that moves the reference into one, trades that leave, windows that are emptied. */
+ * The table has the greatest use over all calls of a function: with 0 and with 512 trades held, and along the longest paths: a limit state
+ * that ends and begins again, a trade that moves the reference into one, trades that leave, and windows that are emptied. */
 #include <stdio.h>
 #include <stdlib.h>
 #include <string.h>
@@ -16,18 +15,18 @@
 
 enum { SIZE = 1 << 16, PATTERN = 0xa5, STOCKS = SUMPHERON_MOST_STOCKS, HELD = SUMPHERON_PLACES };
 enum { END = 23400000, NOON = 1000000, PRICE = 100000 };
-enum function { KNOWN, SETUP, SETTLE, READ, TRADE, QUOTE, OPENING, PAUSE, REOPENING, CLOSING, FUNCTIONS };
+enum function { KNOWN, VERSION, SETUP, SETTLE, READ, NEXT, TRADE, QUOTE, OPENING, PAUSE, REOPENING, CLOSING, FUNCTIONS };
 
-/* ---------------------------------------------------------------- the way into a function */
+/* ---------------------------------------------------------------- entry to a function */
 
 typedef void routine(void);
 
 /* Calls a routine on the stack that ends at `top`. */
 void elsewhere(routine *called, unsigned char *top);
-/* `through` notes the stack pointer in `entry` and jumps to `target`, all arguments left as they are. */
+/* `through` stores the stack pointer in `entry` and jumps to `target` with all arguments unchanged. */
 routine *target;
 unsigned char *entry;
-/* Writes one byte, KNOWN_BYTES below the call, and gives no answer; it is called as the function with the most arguments. */
+/* Writes one byte, KNOWN_BYTES below the call, and returns nothing. It is called like the function with the most arguments. */
 routine known;
 enum { KNOWN_BYTES = 1000 };
 
@@ -51,9 +50,11 @@ __asm__(".text; .globl elsewhere, through, known\n"
 /* `through`, with the type of each function. */
 #define THROUGH(name, type) extern __typeof__(sumpheron_##type) through_##name __asm__("through")
 THROUGH(known, quote);
+THROUGH(version, version);
 THROUGH(setup, setup);
 THROUGH(settle, settle);
 THROUGH(read, read);
+THROUGH(next, next);
 THROUGH(trade, trade);
 THROUGH(quote, quote);
 THROUGH(opening, opening);
@@ -63,9 +64,11 @@ THROUGH(closing, closing);
 
 static const struct { const char *name; routine *code; } functions[FUNCTIONS] = {
     [KNOWN] = {"known", known},
+    [VERSION] = {"version", (routine *)sumpheron_version},
     [SETUP] = {"setup", (routine *)sumpheron_setup},
     [SETTLE] = {"settle", (routine *)sumpheron_settle},
     [READ] = {"read", (routine *)sumpheron_read},
+    [NEXT] = {"next", (routine *)sumpheron_next},
     [TRADE] = {"trade", (routine *)sumpheron_trade},
     [QUOTE] = {"quote", (routine *)sumpheron_quote},
     [OPENING] = {"opening", (routine *)sumpheron_opening},
@@ -81,7 +84,7 @@ static long most[FUNCTIONS];
 static struct sumpheron_record book[STOCKS];
 static uint32_t times[STOCKS * HELD], prices[STOCKS * HELD], setups[STOCKS * SUMPHERON_SETUP_NUMBERS];
 
-/* The call to be made and the number it is answered, in globals since a routine takes and returns nothing. */
+/* The call to be made and the number that it answers. They are globals since a routine takes and returns nothing. */
 static struct { enum function function; uint32_t time, participant, price; } call;
 static uint32_t number;
 static unsigned char stack[SIZE] __attribute__((aligned(64)));
@@ -91,10 +94,12 @@ static unsigned char stack[SIZE] __attribute__((aligned(64)));
 static void perform(void)
 {
     switch (call.function) {
-    case KNOWN: through_known(BOOK, 0, 0, 0, 0, 0); break;
+    case KNOWN: number = through_known(BOOK, 0, 0, 0, 0, 0).number; break;
+    case VERSION: number = through_version(); break;
     case SETUP: number = through_setup(BOOK, END, setups, STOCKS * SUMPHERON_SETUP_NUMBERS).number; break;
     case SETTLE: number = through_settle(BOOK, 0, call.time).answer.number; break;
     case READ: number = through_read(BOOK, 0).number; break;
+    case NEXT: number = through_next(BOOK, 0).number; break;
     case TRADE: number = through_trade(BOOK, 0, call.time, call.price).number; break;
     case QUOTE: number = through_quote(BOOK, 0, call.time, call.participant, 0, call.price).number; break;
     case OPENING: number = through_opening(BOOK, 0, call.time, call.participant, call.price).number; break;
@@ -111,7 +116,7 @@ static void fail(const char *why)
     exit(1);
 }
 
-/* Makes the call on a filled stack, and notes how deep it went. */
+/* Makes the call on a filled stack, and records how deep it went. */
 static uint32_t measure(void)
 {
     memset(stack, PATTERN, SIZE);
@@ -130,7 +135,7 @@ static uint32_t measure(void)
 
 /* ---------------------------------------------------------------- the calls */
 
-/* A call that must be done, and leave the first stock in this state. */
+/* Makes a call that must be done and must leave the first stock in this state. */
 static void run(enum function function, uint32_t time, uint32_t price, uint32_t state)
 {
     call.function = function, call.time = time, call.price = price;
@@ -154,7 +159,7 @@ static void settle(uint32_t time)
         ;
 }
 
-/* Sets up, opens the first stock, and lets it hold so many trades, the first at this time. The clock is then `time + held - 1`. */
+/* Sets up, opens the first stock, and makes this many trades, the first at this time. The clock is then `time + held - 1`. */
 static void prepare(uint32_t time, uint32_t held, uint32_t price)
 {
     run(SETUP, 0, 0, SUMPHERON_WAITING);
@@ -163,6 +168,7 @@ static void prepare(uint32_t time, uint32_t held, uint32_t price)
     for (uint32_t i = 0; i < held; i++)
         run(TRADE, time + i, price, SUMPHERON_TRADING);
     run(READ, 0, 0, SUMPHERON_TRADING);
+    run(NEXT, 0, 0, SUMPHERON_TRADING);
 }
 
 /* An offer at the lower band of the reference 100,000, while another stands at that of 99,500, the trades' mean. */
@@ -186,7 +192,7 @@ static void moved(void)
     settle(NOON + HELD + 700000);
 }
 
-/* The first reference, by the moment f and by an opening, of a window that is full. */
+/* The first reference, by the moment f and by an opening, with a full window. */
 static void opened(uint32_t held)
 {
     for (int by_opening = 0; by_opening < 2; by_opening++) {
@@ -201,13 +207,13 @@ static void opened(uint32_t held)
     }
 }
 
-/* A pause while a side has flag 2, and the ends of pauses; a pause that ends while trades are held is written into the record. */
+/* A pause while a side has flag 2, and the ends of pauses. The test writes these pauses into the record, so that they end while trades are held. */
 static void paused(uint32_t held)
 {
     prepare(NOON, held, PRICE);
     offer(NOON + held, 0, 2 * PRICE, SUMPHERON_TRADING);
     run(PAUSE, NOON + held, 0, SUMPHERON_PAUSED);
-    book[0].pause = NOON + held - 300000;
+    book[0].pause_start = NOON + held - 300000;
     offer(NOON + held, 0, 90000, SUMPHERON_PAUSED);
     run(REOPENING, NOON + held, 94700, SUMPHERON_LIMIT);
     prepare(END - 1000, held, PRICE);
@@ -225,13 +231,20 @@ static void check_measure(void)
         fail("a function with a known stack is measured wrongly");
 }
 
+static void check_version(void)
+{
+    call.function = VERSION;
+    if (measure() != SUMPHERON_VERSION)
+        fail("the library is of another version");
+}
+
 static void print_table(void)
 {
     puts("| function | stack, bytes |\n|---|---|");
-    for (int function = SETUP; function < FUNCTIONS; function++)
+    for (int function = VERSION; function < FUNCTIONS; function++)
         printf("| %s | %ld |\n", functions[function].name, most[function]);
 #ifndef __x86_64__
-    puts("\nEach has the frame of a C function around the library's (bench/around.py), which the library for x86-64 does not have.");
+    puts("\nEach but version and next has the frame of a C function around the library's (tools/around.py), which the library for x86-64 does not have.");
 #endif
 }
 
@@ -240,6 +253,7 @@ int main(void)
     for (int stock = 0; stock < STOCKS; stock++)
         memcpy(setups + SUMPHERON_SETUP_NUMBERS * stock, (uint32_t[]){1, 1, 0, PRICE}, sizeof(uint32_t[SUMPHERON_SETUP_NUMBERS]));
     check_measure();
+    check_version();
     for (uint32_t held = 0; held <= HELD; held += HELD)
         limits(held), opened(held), paused(held);
     moved();

@@ -1,27 +1,26 @@
 #!/usr/bin/env python3
-"""Holds what the parts of the gate count to the floors of tests/floors.txt.
+"""Compares the counts of the parts of the gate with the floors of tests/floors.txt.
 
     tests/floors.py
 
-A part of the gate calls `faults` with all that it counted. A count below its floor is a fault; so is a floor that the project has
-outgrown, a floor whose count the part does not give, and a count that has no floor. Each part that did so is noted in
-target/floors.held, which goes with the rest of target/ where rt ci begins. The command fails where floors have a part that is not
-noted there: the gate ends with it.
+A part of the gate calls `faults` with all its counts. A count below its floor is a fault; so is a floor that is far below its count, a
+floor without a count, and a count without a floor. `faults` records the part in target/floors.held, which rt ci removes with the rest of
+target/ when it begins. The gate runs this command last: it fails if a part that has floors is not recorded there.
 """
 import sys
 from functools import lru_cache
-from pathlib import Path
 
-ROOT = Path(__file__).resolve().parent.parent
+from common import ROOT, conclude
+
 FLOORS = ROOT / "tests/floors.txt"
 HELD = ROOT / "target/floors.held"
-# The headings of the file: whether a count must equal its floor.
+# The headings of the file, with whether a count must equal its floor.
 HEADINGS = {"exactly": True, "at least": False}
 
 
 @lru_cache(None)
 def floors():
-    """Of each part its floors: by the name of what is counted whether they are exact, and the numbers."""
+    """The floors of each part: for each name, whether they are exact, and the numbers."""
     found, exact = {}, None
     for line in FLOORS.read_text().splitlines():
         name, *numbers = line.partition("#")[0].split() or [""]
@@ -41,7 +40,7 @@ def risen(count, exact):
 
 
 def fault(count, floor, exact):
-    """What is wrong with a floor, None where nothing is."""
+    """What is wrong with a floor, or None."""
     if count < floor:
         return f"{count:,} is below the floor of {floor:,}"
     if count > floor and (exact or 10 * floor < 9 * count):
@@ -59,7 +58,7 @@ def row_faults(name, counts, exact, numbers):
 
 
 def faults(part, counted):
-    """What is wrong with the floors of a part of the gate, given all that it counted: by a name a number or a row of numbers."""
+    """What is wrong with the floors of a part of the gate. Its counts are given by name, each a number or a row of numbers."""
     HELD.parent.mkdir(exist_ok=True)
     with HELD.open("a") as held:
         held.write(f"{part}\n")
@@ -76,8 +75,7 @@ def faults(part, counted):
 def main():
     held = set(HELD.read_text().split()) if HELD.exists() else set()
     wrong = [f"{part}: it has floors, and no part of the gate held them" for part in floors() if part not in held]
-    print("\n".join(wrong + [f"floors: of {len(floors())} parts, {len(wrong)} not held"]))
-    return 1 if wrong else 0
+    return conclude(wrong, f"floors: of {len(floors())} parts, {len(wrong)} not held")
 
 
 if __name__ == "__main__":

@@ -1,4 +1,4 @@
-"""Which theorems of a crate are statements, and which of them a check refused. Used by tests/trying.py, tests/counts, tests/promises and tests/wrong-rules/run.
+"""Finds which theorems of a crate are statements, and which of them a check refused. Used by tests/trying.py, tests/counts, tests/promises and tests/wrong-rules/run.
 
 A *law* is the theorem that proofs/ gives for a field of a record Laws or Demands of the crate's specs/, by itself or applied, as
 `part-put` in `λ i new xs f. part-put i new xs (f .places)`. A theorem is *in words* where its type cites a definition of specs/Words of
@@ -8,13 +8,14 @@ definitions of one name in one file count as one.
 import re
 from pathlib import Path
 
-ROOT = Path(__file__).resolve().parent.parent
+from common import ROOT
+
 WORDS = [f"crates/{file}.antt" for file in ("forms/specs/Words", "band/specs/Words", "rules/specs/Words", "rules/specs/Changes", "calls/specs/Words", "book/specs/Words", "tape/specs/Words")]
 DECLARED = re.compile(r"^ *(?:(?:abbrev|unfoldable) )?(?:pub )?(record |data )?([^\s(){}:]+)((?: [({][^)}]*[)}])*) :(?: (.*))?$")
 
 
 def text_of(path):
-    """The text of a file without its comments, nothing where there is none."""
+    """The text of a file without its comments; empty if the file does not exist."""
     return re.sub(r"--.*", "", path.read_text()) if path.exists() else ""
 
 
@@ -65,7 +66,7 @@ def in_words(crate):
 
 
 def refusals(printed):
-    """What a check refused: each theorem with the theorem without which it cannot be checked, or None where it fails by itself."""
+    """What a check refused: each theorem, with the failed theorem that it depends on, or None if it fails by itself."""
     found = {}
     for path, name, why in re.findall(r"^(.+?\.antt):\d+:\d+: error: (?:in )?`(\S+)`: (.*)$", printed, re.M):
         lacks = re.match(r"`(\S+)` was not admitted", why)
@@ -75,7 +76,7 @@ def refusals(printed):
 
 
 def root(theorem, refused):
-    """The theorem that fails by itself and for whose sake this one is refused; None where it is not refused."""
+    """The theorem that fails by itself and causes this one to be refused, or None if this one is not refused."""
     seen = set()
     while theorem in refused and theorem not in seen:
         seen.add(theorem)

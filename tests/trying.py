@@ -1,8 +1,8 @@
 """Edits, and copies of the crates in which they are tried. Used by tests/edits, tests/walks, tests/tried/run and tests/wrong-rules/run.
 
 An *edit* is a file: a sentence that says what is wrong, perhaps a line `statement: NAME` and a line `crate: NAME`, and then the changes, each
-a line `old: ` and a line `new: ` below the line `file: ` that holds for them. A path begins in the crate; one that begins with tools/walks
-begins at the top of the repository. Changes are made one after the other, and an old text must then occur exactly once.
+a line `old: ` and a line `new: ` below the line `file: ` that they belong to. A path is relative to the crate; one that begins with
+tools/walks is relative to the repository. Changes are made one after the other, and each old text must occur exactly once.
 
 Edits stand in crates/CRATE/must-fail, which rt tries at every run of the gate, in tests/tried/CRATE and in tests/wrong-rules.
 """
@@ -18,7 +18,7 @@ from concurrent.futures import ThreadPoolExecutor
 from functools import lru_cache
 from pathlib import Path
 
-from floors import ROOT
+from common import ROOT
 from statements import in_words, laws, refusals
 
 WORKERS = int(os.environ.get("WORKERS", "2"))
@@ -31,7 +31,7 @@ ERROR = re.compile(r"^(.+?):(\d+):\d+: error: (?:in )?`(\S+)`: (.*)$", re.M)
 
 
 class Checked(namedtuple("Checked", "status printed line")):
-    """What a check ended with, what it printed, in which paths begin in the crate, and the line of the file at which its first error stands."""
+    """The status of a check, its output, in which paths are relative to the crate, and the source line of its first error."""
 
     @property
     def refused(self):
@@ -46,7 +46,7 @@ class Checked(namedtuple("Checked", "status printed line")):
 
 
 class Edit:
-    """What an edit says is wrong, the statement that it names, its crate, and its changes: file, old and new."""
+    """What an edit says is wrong, the statement that it names, its crate, and its changes (file, old text, new text)."""
 
     def __init__(self, path, crate):
         self.name = path.stem
@@ -75,13 +75,13 @@ def wrong_rules():
 
 
 def kinds(edits):
-    """How many edits change a rule, and how many code alone; those that make the same change count once."""
+    """How many edits change a rule, and how many change only code; edits with the same change count once."""
     changes = {(edit.crate, *edit.changes): edit.touches("specs") for edit in edits}
     return {"rules": sum(changes.values()), "code": len(changes) - sum(changes.values())}
 
 
 def edited(edit, folder=ROOT):
-    """The text of each file that an edit changes, as it makes it; ValueError with the reason where it does not apply."""
+    """The new text of each file that an edit changes; ValueError with the reason if it does not apply."""
     if not edit.changes:
         raise ValueError(NO_EDIT)
     texts = {}
@@ -99,7 +99,7 @@ def edited(edit, folder=ROOT):
 
 
 def applies(edit):
-    """Why an edit does not apply to the crates as they are; None where it does."""
+    """Why an edit does not apply to the crates, or None."""
     try:
         edited(edit)
     except ValueError as why:
@@ -111,7 +111,7 @@ def applies(edit):
 
 
 def write_walks(folder):
-    """Writes the proofs anew that the scripts of tools/walks write, in a folder that has both; gives the scripts."""
+    """Runs the scripts of tools/walks in a folder that has them and the proofs; returns the scripts."""
     scripts = [script for script in sorted((folder / WALKS).glob("*.py")) if script.name != "ctx.py"]
     for script in scripts:
         subprocess.run([sys.executable, "-B", script], check=True)
@@ -137,7 +137,7 @@ class Worker:
         return Checked(done.returncode, printed, at.read_text().splitlines()[int(error[2]) - 1] if at and at.is_file() else "")
 
     def attempt(self, edit):
-        """What the check says with the edit made, or why it could not be made."""
+        """What the check says about the edit, or why the edit could not be made."""
         if edit.crate not in self.stands:
             self.stands[edit.crate] = self.check(edit.crate).status == 0
         if not self.stands[edit.crate]:
@@ -160,8 +160,8 @@ class Worker:
 
 
 def attempted(edits, logs=None, unfit=applies):
-    """Tries the edits that are not unfit, some at a time: each with what was said of it, in their order. A folder for logs gets what each
-    check printed."""
+    """Tries the edits for which `unfit` gives no reason, some in parallel; gives each edit with its result, in order. If a folder for logs is given, it gets
+    the output of each check."""
     if logs:
         Path(logs).mkdir(parents=True, exist_ok=True)
     with tempfile.TemporaryDirectory() as folder, ThreadPoolExecutor(WORKERS) as pool:
@@ -182,7 +182,7 @@ def attempted(edits, logs=None, unfit=applies):
         yield from zip(edits, pool.map(attempt, edits))
 
 
-# ---------------------------------------------------------------- what refused an edit
+# ---------------------------------------------------------------- why an edit was refused
 
 
 @lru_cache(None)
@@ -192,13 +192,13 @@ def stated(crate):
 
 
 def fault(edit, printed, line=""):
-    """Why a refused edit shows nothing, by what its check printed, in which paths begin in the crate, and the line of its first error;
-    None where a fact no longer holds.
+    """Why a refused edit shows nothing, or None if it makes a fact false. It is decided by what the check printed, in which paths are
+    relative to the crate, and by the source line of its first error.
 
-    An edit of src/ is to be refused first at a need that has no proof, and not because a proof file no longer fits the code. Where it
-    changes tools/walks too, the walk of the function has been written anew and is to be refused at its last step, which asks for the
-    promise. An edit of specs/ is to be refused at a law or a theorem in words that fails by itself (statements.py says which these are).
-    An edit of proofs/ shows nothing.
+    An edit of src/ must be refused first at a proof obligation, and not because a proof file no longer fits the code. If it changes
+    tools/walks too, the function's walk was written again and must be refused at its last step, which asks for the promise. An edit of
+    specs/ must be refused at a law or a theorem in words that fails by itself (statements.py says which these are). An edit of proofs/
+    shows nothing.
     """
     first = ERROR.search(printed)
     if not edit.changes:

@@ -1,4 +1,4 @@
-//! Links libengine.a, which bin/engine writes to dist/; SUMPHERON_LIBRARY names another folder that has it.
+//! Links libsumpheron.a, which bin/library writes to dist/lib; SUMPHERON_LIBRARY names another folder that has it.
 
 use std::path::PathBuf;
 
@@ -6,13 +6,15 @@ fn main() {
     println!("cargo:rerun-if-env-changed=SUMPHERON_LIBRARY");
     let folder = match std::env::var_os("SUMPHERON_LIBRARY") {
         Some(folder) => PathBuf::from(folder),
-        None => PathBuf::from(std::env::var_os("CARGO_MANIFEST_DIR").unwrap()).join("../../dist"),
+        None => {
+            PathBuf::from(std::env::var_os("CARGO_MANIFEST_DIR").unwrap()).join("../../dist/lib")
+        }
     };
-    let library = folder.join("libengine.a");
+    let library = folder.join("libsumpheron.a");
     println!("cargo:rerun-if-changed={}", library.display());
     if !library.exists() {
-        panic!("{} is missing: bin/engine writes it", library.display());
+        panic!("{} is missing: bin/library writes it", library.display());
     }
     println!("cargo:rustc-link-search=native={}", folder.display());
-    println!("cargo:rustc-link-lib=static=engine");
+    println!("cargo:rustc-link-lib=static=sumpheron");
 }

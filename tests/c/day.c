@@ -1,5 +1,5 @@
-/* Plays a day through the library: reads it from standard input, settles each stock before each message, and prints what becomes of
- * it, as docs/RULES.md says under "The day program", for up to 64 stocks. A malformed line ends it with status 1. */
+/* Plays a day of up to 64 stocks through the library: reads it from standard input, settles each stock before each message, and prints
+ * the results in the format of docs/RULES.md, "The day program". A malformed line ends the program with status 1. */
 #include "sumpheron.h"
 
 #include <ctype.h>
@@ -56,10 +56,10 @@ static struct line next_line(void)
     return line;
 }
 
-static void print(uint32_t stock, uint64_t time, char mark, struct sumpheron_answer a)
+static void print(uint32_t stock, uint32_t time, char mark, struct sumpheron_answer a)
 {
-    printf("%" PRIu32 " %" PRIu64 " %c %" PRIu32 " %" PRIu32 " %" PRIu32, stock, time, mark, a.number, a.state, a.reference);
-    printf(" %" PRIu64 " %" PRIu64, a.lower, a.upper);
+    printf("%" PRIu32 " %" PRIu32 " %c %" PRIu32 " %" PRIu32 " %" PRIu32, stock, time, mark, a.number, a.state, a.reference);
+    printf(" %" PRIu32 " %" PRIu32, a.lower, a.upper);
     printf(" %" PRIu32 " %" PRIu32 " %" PRIu32 " %" PRIu32 "\n", a.bid, a.bid_flag, a.offer, a.offer_flag);
 }
 
@@ -70,11 +70,11 @@ static void settle(uint32_t stock, uint32_t time)
         struct sumpheron_notice n = sumpheron_settle(BOOK, stock, time);
         if (n.answer.number != SUMPHERON_DONE)
             return;
-        print(stock, n.moment.time, (char)n.moment.mark, n.answer);
+        print(stock, n.time, (char)n.mark, n.answer);
     }
 }
 
-/* How many numbers a message has, 0 for a letter that is none. */
+/* How many numbers a message has, 0 if the letter is not a message's. */
 static int length(char letter)
 {
     switch (letter) {
@@ -85,7 +85,7 @@ static int length(char letter)
     }
 }
 
-/* Tells the book a message, which has as many numbers as its letter asks for. */
+/* Tells the book a message, which must have as many numbers as its letter needs. */
 static struct sumpheron_answer tell(char letter, const uint32_t *n)
 {
     switch (letter) {
@@ -98,7 +98,7 @@ static struct sumpheron_answer tell(char letter, const uint32_t *n)
     }
 }
 
-/* Sets the book up by the first lines of a day, and says how many messages follow. */
+/* Sets the book up from the first lines of a day, and returns how many messages follow. */
 static uint32_t set_up(void)
 {
     static uint32_t setups[SUMPHERON_MOST_STOCKS * SUMPHERON_SETUP_NUMBERS];

@@ -1,5 +1,5 @@
-/* Holds the constants of include/sumpheron.h to the library: calls bring about each number, state, flag, mark and size, and what they
- * give is compared by its name. It is C11 and C++17. */
+/* Compares the constants of include/sumpheron.h with the library's: calls produce each number, state, flag, mark and size, and the result
+ * is compared with the named constant. The source is C11 and C++17. */
 #include "sumpheron.h"
 
 #include <inttypes.h>
@@ -11,7 +11,7 @@ enum { STOCKS = SUMPHERON_MOST_STOCKS, SETUPS = STOCKS * SUMPHERON_SETUP_NUMBERS
 /* While the factor is 2, the bands of the price are 92,000 and 138,000. */
 enum { UPPER = 138000, ABOVE };
 
-/* Room for a stock more than a book may have. */
+/* Room for one stock more than a book may have. */
 static struct sumpheron_record book[STOCKS + 1];
 static uint32_t times[(STOCKS + 1) * SUMPHERON_PLACES], prices[(STOCKS + 1) * SUMPHERON_PLACES];
 static uint32_t setups[SETUPS + SUMPHERON_SETUP_NUMBERS];
@@ -30,7 +30,7 @@ static void hold(const char *name, uint32_t value, uint32_t given)
     }
 }
 
-/* What fills a size is done, and what goes over it by one is refused. */
+/* Checks that a call that uses the full size is done, and that one more is refused. */
 static void hold_size(const char *name, int value, uint32_t most, uint32_t over, uint32_t refusal)
 {
     held++;
@@ -40,11 +40,19 @@ static void hold_size(const char *name, int value, uint32_t most, uint32_t over,
     }
 }
 
-/* Does all moments of a stock up to a time, and gives the last notice of one; no moment has the time 0. */
+static void expect_done(struct sumpheron_answer answer)
+{
+    if (answer.number != SUMPHERON_DONE) {
+        faults++;
+        printf("names: a call is refused: %s\n", sumpheron_number_name(answer.number));
+    }
+}
+
+/* Does all moments of a stock up to a time, and returns the notice of the last one. If there was none, its time is 0. */
 static struct sumpheron_notice settle(uint32_t stock, uint32_t time)
 {
     struct sumpheron_notice last = sumpheron_settle(BOOK, stock, time), next = last;
-    while (next.moment.time != 0) {
+    while (next.time != 0) {
         last = next;
         next = sumpheron_settle(BOOK, stock, time);
     }
@@ -73,15 +81,15 @@ static void play_day(void)
     HOLD(SUMPHERON_WAITING, a.state);
     HOLD(SUMPHERON_FLAG_ABSENT, a.bid_flag);
     HOLD(SUMPHERON_WRONG_STATE, sumpheron_pause(BOOK, 0, 1000, PRIMARY).number);
-    sumpheron_trade(BOOK, 0, 1000, PRICE);
+    expect_done(sumpheron_trade(BOOK, 0, 1000, PRICE));
     HOLD(SUMPHERON_BEFORE_CLOCK, sumpheron_trade(BOOK, 0, 999, PRICE).number);
     HOLD(SUMPHERON_NOTHING_DUE, settle(0, 299999).answer.number);
-    HOLD(SUMPHERON_MARK_NONE, settle(0, 299999).moment.mark);
+    HOLD(SUMPHERON_MARK_NONE, settle(0, 299999).mark);
     HOLD(SUMPHERON_UNSETTLED, sumpheron_trade(BOOK, 0, 300000, PRICE).number);
-    HOLD(SUMPHERON_MARK_F, settle(0, 300000).moment.mark);
+    HOLD(SUMPHERON_MARK_F, settle(0, 300000).mark);
     HOLD(SUMPHERON_TRADING, sumpheron_read(BOOK, 0).state);
-    HOLD(SUMPHERON_MARK_V, settle(0, 301000).moment.mark);
-    HOLD(SUMPHERON_MARK_H, settle(0, 330000).moment.mark);
+    HOLD(SUMPHERON_MARK_V, settle(0, 301000).mark);
+    HOLD(SUMPHERON_MARK_H, settle(0, 330000).mark);
     a = sumpheron_quote(BOOK, 0, 400000, OTHER, PRICE, ABOVE);
     HOLD(SUMPHERON_FLAG_PLAIN, a.bid_flag);
     HOLD(SUMPHERON_FLAG_NON_EXECUTABLE, a.offer_flag);
@@ -90,14 +98,14 @@ static void play_day(void)
     a = sumpheron_quote(BOOK, 0, 500000, OTHER, UPPER, 0);
     HOLD(SUMPHERON_FLAG_LIMIT, a.bid_flag);
     HOLD(SUMPHERON_LIMIT, a.state);
-    HOLD(SUMPHERON_MARK_X, settle(0, 515000).moment.mark);
+    HOLD(SUMPHERON_MARK_X, settle(0, 515000).mark);
     HOLD(SUMPHERON_PAUSED, sumpheron_read(BOOK, 0).state);
     HOLD(SUMPHERON_IN_PAUSE, sumpheron_trade(BOOK, 0, 515000, PRICE).number);
     HOLD(SUMPHERON_NOT_YET, sumpheron_reopening(BOOK, 0, 814999, PRIMARY, PRICE).number);
-    HOLD(SUMPHERON_MARK_W, settle(0, 900000).moment.mark);
-    HOLD(SUMPHERON_MARK_P, settle(0, 1115000).moment.mark);
-    sumpheron_quote(BOOK, 0, 1115000, OTHER, 0, 0);
-    HOLD(SUMPHERON_MARK_Z, settle(0, END).moment.mark);
+    HOLD(SUMPHERON_MARK_W, settle(0, 900000).mark);
+    HOLD(SUMPHERON_MARK_P, settle(0, 1115000).mark);
+    expect_done(sumpheron_quote(BOOK, 0, 1115000, OTHER, 0, 0));
+    HOLD(SUMPHERON_MARK_Z, settle(0, END).mark);
     HOLD(SUMPHERON_CLOSED, sumpheron_read(BOOK, 0).state);
     HOLD(SUMPHERON_CLOSED_STOCK, sumpheron_trade(BOOK, 0, END, PRICE).number);
 }
@@ -105,17 +113,17 @@ static void play_day(void)
 /* Stock 1 goes into a late pause. */
 static void play_late_pause(void)
 {
-    sumpheron_opening(BOOK, 1, 1000, PRIMARY, PRICE);
+    expect_done(sumpheron_opening(BOOK, 1, 1000, PRIMARY, PRICE));
     settle(1, LATE);
-    sumpheron_quote(BOOK, 1, LATE, OTHER, 0, ABOVE);
+    expect_done(sumpheron_quote(BOOK, 1, LATE, OTHER, 0, ABOVE));
     HOLD(SUMPHERON_LATE_PAUSE, sumpheron_pause(BOOK, 1, LATE, PRIMARY).state);
-    HOLD(SUMPHERON_MARK_C, settle(1, END + 300000).moment.mark);
+    HOLD(SUMPHERON_MARK_C, settle(1, END + 300000).mark);
 }
 
 /* Stock 2 holds as many trades as it can, and quotes of all participants. */
 static void fill(void)
 {
-    struct sumpheron_answer last = {0, 0, 0, 0, 0, 0, 0, 0, 0};
+    struct sumpheron_answer last = sumpheron_read(BOOK, 2);
     for (int i = 0; i < SUMPHERON_PLACES; i++)
         last = sumpheron_trade(BOOK, 2, 1000, PRICE);
     HOLD_SIZE(SUMPHERON_PLACES, last, sumpheron_trade(BOOK, 2, 1000, PRICE), SUMPHERON_NO_ROOM);
@@ -126,12 +134,20 @@ static void fill(void)
               sumpheron_quote(BOOK, 2, 1000, SUMPHERON_PARTICIPANTS, PRICE, 0), SUMPHERON_OUT_OF_RANGE);
 }
 
+/* Stock 3 trades at the highest price. */
+static void check_price(void)
+{
+    HOLD_SIZE(SUMPHERON_HIGHEST_PRICE, sumpheron_trade(BOOK, 3, 1000, SUMPHERON_HIGHEST_PRICE),
+              sumpheron_trade(BOOK, 3, 1000, SUMPHERON_HIGHEST_PRICE + 1), SUMPHERON_OUT_OF_RANGE);
+}
+
 int main(void)
 {
     set_up();
     play_day();
     play_late_pause();
     fill();
+    check_price();
     printf("names: %d held, %d faults\n", held, faults);
     return faults == 0 ? 0 : 1;
 }

@@ -1,6 +1,6 @@
 # fill.py: writes crates/book/proofs/fresh/fill/Proof.antt from fill.tpl, the walk of
 #     fn fill(book: &mut [Record], list: &[u32], end: u32) { let mut i = 0usize; while i < book.len() { book[i] = started_at(list, end, i); i += 1; } }
-# The template says what is known before and after; this script adds the steps, with the places of the context worked out.
+# The template has what is known before and after; this script adds the steps, with the positions in the context.
 import pathlib
 
 from ctx import Walk, sub
@@ -8,7 +8,7 @@ from ctx import Walk, sub
 here = pathlib.Path(__file__).resolve().parent
 out = here.parents[1] / "crates/book/proofs/fresh/fill/Proof.antt"
 
-# the locals: what is returned, the parameters, then i, a number, the test, a record and the place that is stored to
+# the locals: the result, the parameters, then i, a number, the loop test, a record and the place of the store
 TYPES = ["tyUnit", "tyBook", "tyList", "tyInt w32", "tyInt w64", "tyInt w64", "tyBool", "T′.mir", "tyPtr"]
 BOOK, LIST, END, I, NUMBER, TEST, RECORD, PLACE = (f"_{k}" for k in range(1, 9))
 FILLED = {BOOK: "s₀", LIST: "s₁", END: "vint w32 x₂", I: "vint w64 i"}
@@ -23,7 +23,7 @@ def typed(name):
     return f"({t})" if " " in t else t
 
 
-# what a turn begins and ends with
+# the context at the beginning and the end of an iteration
 ORDER = ["row", "tokens", "own", *[f"_{k}" for k in range(9)], "dies", "open", "obs", "auth"]
 
 
@@ -44,7 +44,7 @@ def item(name):
     }[name]
 
 
-# the test of a turn, which came out as `proof` says
+# the loop test, with the outcome that `proof` gives
 def begin(proof):
     w = Walk(ORDER)
     w.n = len(TYPES)
@@ -55,7 +55,7 @@ def begin(proof):
     return w
 
 
-# a turn that stores a record
+# an iteration, which stores a record
 def turn():
     w = begin("holds (ltb i n) (lt→ltb i n small)")
     w.add(f"stays ! {w.load(TEST)} $")
@@ -92,7 +92,7 @@ def turn():
     return w.text()
 
 
-# the turn that leaves the loop, and what follows it
+# the exit from the loop, and what follows it
 def leave():
     w = begin("fails (ltb n n) (λ a. lt-irrefl n (ltb→lt n n a))")
     w.add(f"leaves-loop ! {w.load(TEST)} $ exec ! C Λ En body.t-3 (atRet En Post) $")

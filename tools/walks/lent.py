@@ -1,13 +1,12 @@
 #!/usr/bin/env python3
-"""Writes the walks of the functions that are lent a record: crates/book/proofs/FUNCTION/Proof.antt.
+"""Writes the walks of the functions that borrow a record: crates/book/proofs/FUNCTION/Proof.antt.
 
     tell_one, settle_one    `&mut Record`      one.tpl
     tell, settle            `&mut [Record]`    book.tpl
-    read                    `&[Record]`        read.tpl
+    read, next              `&[Record]`        read.tpl
 
-A template has what is said of a function beside its MIR; head.tpl has the `use` lines of all, of which a proof keeps those
-that it needs. The steps through the MIR are worked out here, over a context by name (ctx.py): a local's name is its number
-in the MIR. Where a body in crates/book/src/lib.rt changes, `rt mir book` shows the MIR that the steps must follow.
+A template has the text of a proof except for the steps through the MIR; head.tpl has the `use` lines of all proofs, and a proof keeps
+those that it needs. This script computes the steps, over a context by name (ctx.py): a local's name is its number in the MIR. Where a body in crates/book/src/lib.rt changes, `rt mir book` shows the MIR that the steps must follow.
 """
 import re
 from pathlib import Path
@@ -38,7 +37,7 @@ def struct_typed(row, value, known):
 
 
 def apart(w, own0):
-    """the tokens and the parameters apart, the first one opened to what it is made of"""
+    """separates the tokens and the parameters, and opens the first parameter into its parts"""
     w.split("token", "tokens")
     w.front("owns")
     w.fsplit("own0", "owns")
@@ -74,7 +73,7 @@ def enter(w, values, locals_, typings):
 
 
 def lent_book(values, locals_, typings):
-    """the opening of a function that is lent a book, two arrays and a stock's number, and takes further values"""
+    """the opening of a function that borrows a book and two arrays, and takes a stock's number and further values"""
     w = Walk(["toks", "owns"])
     apart(w, slice_)
     rooms = [slice_typed(f"room{sub(k)}") for k in range(3)]
@@ -86,7 +85,7 @@ def lent_book(values, locals_, typings):
 
 
 def call(w, contract, known, ghost, opds, v, given, ensured, tokens, is_):
-    """the call is made; what the type tells of its result is known, the result is let go, and what it ensures is in front"""
+    """makes the call; keeps the type's facts about the result, drops the result, and puts what the call ensures in front"""
     w.lam(f"calls-at ! fm ({contract} 𝓤 H A at-mem run) {known} {ghost} {w.opds(*[w.load(o) for o in opds])} (λ {v}.")
     value, type_, given_tokens, row = given
     w.use(1, ["post"], f"later (some (λ ({value} : {type_}). ({given_tokens} ⊛ ‵ ({row} .own {value} ({v} ∷ []))) ⊛ raw (ensured 𝓤 H A {ensured} tt {value})))", "id⊢ 𝓤 _")
@@ -102,20 +101,20 @@ def call(w, contract, known, ghost, opds, v, given, ensured, tokens, is_):
 
 
 def heard(w, fact, said, e):
-    """what a callee that changes nothing ensures is known as e"""
+    """names what a callee that changes nothing ensures: e"""
     w.use(1, ["fact"], f"raw (fact 𝓤 ({fact}))", said)
     w.lam(f"heard ! ({fact}) (λ {e}.")
     w.put(1)
 
 
 def seen(w, row, value, v, known):
-    """what its type tells of a result in front, which is let go"""
+    """keeps the type's facts about the result in front, and drops the result"""
     w.lam(f"peeks ! {row} (Is {row}) (shows 𝓤 H A {row}) {value} ({v} ∷ []) (λ {known}.")
     w.drop()
 
 
 def heard_lasts(w, fact, e):
-    """what a callee that was lent the arrays ensures of their last lists"""
+    """what a callee that borrows the arrays ensures about their final lists"""
     fact = f"{fact} r (zs .1 .0) (zs .1 .1 .0)"
     w.use(1, ["ensured"], f"some (λ (zs : Ends). ‵ (lasts g.ended (κ₁, (κ₂, tt)) x′ zs) ⊛ raw (fact 𝓤 ({fact})))", "id⊢ 𝓤 _")
     w.ensures("zs", fact, e)
@@ -127,7 +126,7 @@ def heard_lasts(w, fact, e):
 
 
 def step(w, p, goes, d, opds):
-    """the step is called on the copy, the arrays lent on for good; what it made is in the local d"""
+    """calls the step on the copy, and passes the arrays, which are not used again; the result is in the local d"""
     w.front("tokens", "own1", "own2")
     w.use(3, ["pre"], "raw (Step 𝓤 H A at-mem run .pre to-step)", goes)
     call(w, "Step", "known", "to-step", opds, "v", ("r", p["Made"], "tokens", "D.the-row"), "g.ended (g.clauses 𝓤 H A at-mem run) (κ₁, (κ₂, tt)) x′", "tokens", "is")
@@ -166,7 +165,7 @@ def guard(w, p, at, number, lengths, flag, refused):
 
 
 def place(w, at, offset, pointer):
-    """where record i stands"""
+    """the address of record i"""
     fits = f"element-fits (length ys) (mem T.the-row .size) i (room₀ .1) {INSIDE}"
     w.set(offset, f"bin ! {w.load(at)} (lit ! tt) (record {{ fits = {fits} }})", number_typed(fits))
     w.set(pointer, f"bin ! {w.load('_1', 0)} {w.load(offset)} tt", "(tt, tt)")
@@ -178,7 +177,7 @@ def copy_out(w, pointer, copy, value, known):
 
 
 def lend_arrays(w, times, prices):
-    """the two arrays are borrowed anew, as they are lent on"""
+    """reborrows the two arrays to pass them on"""
     for k, (pointer, array) in enumerate((times, prices)):
         w.set(pointer, w.addr_in(f"_{k + 2}"), "(tt, tt)")
         w.set(array, w.agg(w.load(pointer), w.load(f"_{k + 2}", 1)), slice_typed(f"room{sub(k + 1)}"))
@@ -203,7 +202,7 @@ def leave(w, exits, known, within=False):
 
 
 def unless_refused(w, p, answer, flag):
-    """if answer.NUMBER != 0 { return answer; }: the record is put back as it was"""
+    """if answer.NUMBER != 0 { return answer; }: puts the record back unchanged"""
     w.set(flag, f"bin ! {w.load(answer, *p['fields'])} (lit ! tt) tt", "(tt, tt)")
     w.add(f"guarded ! {w.load(flag)}")
     arm = w.fork()
@@ -270,9 +269,10 @@ def book(p):
 
 
 def read(p):
-    """GUARD read_at(book[i], times, prices, stock)"""
+    """GUARD STEP(book[i], times, prices, stock)"""
+    asked = f"{p['given']} {p['zeros']} was r c"
     w = lent_book([], 13, [])
-    guard(w, p, "_5", "_6", ["_7", "_8", "_9"], "_10", "exits r v is (unread-in i n was r c bad z)")
+    guard(w, p, "_5", "_6", ["_7", "_8", "_9"], "_10", f"exits r v is (unasked-in i n {asked} bad z)")
     w.front("borrow", "token")
     w.lam(f"looks-slice ! tt {LAWS} (LL.copy T.the-type T′.the-copy 𝓤 H A W) ys b o (λ q′. elem-out ! {LAWS} q′ ys i noRecord b o {INSIDE} (λ is-one.")
     w.put(2, "cell", "own", "others", "open", "borrow")
@@ -288,11 +288,11 @@ def read(p):
         w.split(f"own{k}", f"lent{k}")
     w.front("tokens", "lent1", "lent2")
     w.use(3, ["pre"], "raw (Step 𝓤 H A at-mem run .pre to-step)", "goes-step is-one")
-    call(w, "Step", "known", "to-step", ["_12", "_2", "_3", "_4"], "v", ("r", "Answer", "tokens", "N.the-row"), "g.ended (g.clauses 𝓤 H A at-mem run) (κ₁, (κ₂, tt)) x′", "tokens", "is")
-    heard(w, "r ≡ reading (bytesOf i was)", "said-step r", "e")
+    call(w, "Step", "known", "to-step", ["_12", "_2", "_3", "_4"], "v", ("r", p["Answer"], "tokens", "N.the-row"), "g.ended (g.clauses 𝓤 H A at-mem run) (κ₁, (κ₂, tt)) x′", "tokens", "is")
+    heard(w, f"r ≡ {p['given']} (bytesOf i was)", "said-step r", "e")
     w.land("_0", struct_typed("N", "r", "is"))
     w.returns(*BOOK_LENT, "own1", "own2")
-    w.add("by ! (exits r v is (read-in i n was r c good e))" + ")" * w.close)
+    w.add(f"by ! (exits r v is (asked-in i n {asked} good e))" + ")" * w.close)
     return w
 
 
@@ -321,12 +321,13 @@ FUNCTIONS = [
     (one, {**SETTLE, "fn": "settle_one", "step": "settle", "promise": "Settles t (bytes h (x₁ .now) (x₂ .now))"}),
     (book, {**TELL, "fn": "tell", "step": "told_at", "promise": "ToldAt i m one (x₁ .now) (x₂ .now)"}),
     (book, {**SETTLE, "fn": "settle", "step": "settled_at", "promise": "SettledAt i t one (x₁ .now) (x₂ .now)"}),
-    (read, {"fn": "read", "Answer": "Answer", "zeros": "zeros"}),
+    (read, {"fn": "read", "step": "read_at", "Answer": "Answer", "refuse": "zeros", "zeros": "zeros", "given": "reading", "promise": "readingIn"}),
+    (read, {"fn": "next", "step": "next_at", "Answer": "Upcoming", "refuse": "none_coming", "zeros": "noneComing", "given": "coming", "promise": "comingIn"}),
 ]
 
 
 def filled(template, p):
-    """the template with every @word@ put in; @word-@ is the word with `-` for `_`"""
+    """the template with every @word@ replaced; @word-@ is the word with `-` for `_`"""
     return re.sub(r"@(\w+)(-?)@", lambda m: p[m[1]].replace("_", "-") if m[2] else p[m[1]], template)
 
 

@@ -1,13 +1,12 @@
 #!/usr/bin/env python3
-"""Writes the walks of the functions that lend the first n of eight records: crates/shelf/proofs/lend/FUNCTION/Proof.antt.
+"""Writes the walks of the functions that pass a borrow of the first n of eight records: crates/shelf/proofs/lend/FUNCTION/Proof.antt.
 
     let mut v = book;
     let ANSWER = book::FUNCTION(&mut v[..n], ..);
     MADE { ANSWER, book: v }
 
-The parameters behind n are the callee's behind its records: two `&mut [u32]`, `&[u32]` slices, and numbers or a message by
-value. part.tpl has what is said of a function beside its MIR; the steps through the MIR are worked out here, over a context
-by name (ctx.py). Where a body in crates/shelf/src/lend.rt changes, `rt mir shelf` shows the MIR that the steps must follow.
+The parameters after n are the callee's after its records: two `&mut [u32]`, `&[u32]` slices, and numbers or a message by value. part.tpl
+has the text of a proof except for the steps through the MIR; this script computes the steps, over a context by name (ctx.py). Where a body in crates/shelf/src/lend.rt changes, `rt mir shelf` shows the MIR that the steps must follow.
 """
 from lent import HERE, MESSAGE, filled, number_typed, slice_typed, struct_typed, used
 from ctx import Walk, sub
@@ -39,7 +38,7 @@ def at(record, i):
 
 
 class Params:
-    """the parameters behind n, from 1; a slice's lifetime is its place among the slices, and one more in the callee"""
+    """the parameters after n, from 1; a slice's lifetime is its index among the slices, and one more in the callee"""
 
     def __init__(self, kinds):
         self.kind = dict(enumerate(kinds, 1))
@@ -72,7 +71,7 @@ class Params:
         return f"(message-typed 𝓤 H A W x{sub(k)} x{sub(k)}-is)"
 
     def joined(self, context):
-        """from the slices' rows in the context, all rows, the values' made on the way"""
+        """all rows, from the slices' rows in the context; the rows of values are made on the way"""
         steps = ["nothing ! $"]
         context = ["joined", *context]
         for k in reversed(self.all):
@@ -93,7 +92,7 @@ def array_typed(value, known):
 
 
 def rows_apart(w, ps):
-    """the parameters' rows in front are apart, and of them the slices' are kept"""
+    """separates the parameters' rows in front, and keeps those of the slices"""
     for k in ps.all:
         w.fsplit(f"own{k}", "owns")
         if k in ps.slices:
@@ -104,7 +103,7 @@ def rows_apart(w, ps):
 
 
 def lent_on(w, ps, first, past):
-    """each lent array lent on, by two locals from `first` on; gives the local that each parameter is in, of which the first is behind `past`"""
+    """reborrows each borrowed array, with two locals each from `first` on; returns the local of each parameter, the first after `past`"""
     place = {k: f"_{k + past}" for k in ps.all}
     for k in MUTS:
         pointer, lent = (f"_{first + 2 * k + i}" for i in (0, 1))
@@ -115,7 +114,7 @@ def lent_on(w, ps, first, past):
 
 
 def lifetime(w, a):
-    """a lifetime of the call, and the local in front; gives where it lies"""
+    """starts a lifetime for the call, with the local in front; returns the local's address"""
     w.lam("lft-new ! tt (λ ν.")
     w.c = ["nu"] + w.c
     w.front(f"_{a}")
@@ -123,7 +122,7 @@ def lifetime(w, a):
 
 
 def to_callee(w, b, mine):
-    """the local is lent, and what the callee asks is in front"""
+    """borrows the local, and puts what the callee needs in front"""
     w.add("await ! tt $")
     w.lam("pick ! (λ δ.")
     w.split("own0", "lent")
@@ -138,7 +137,7 @@ def to_callee(w, b, mine):
 
 
 def made(w, ps, b, arguments_):
-    """the call is made, and what it ensures is known as e"""
+    """makes the call, and names what it ensures: e"""
     w.lam(f"calls-at ! fm (Step 𝓤 H A at-mem run) known (to-step {b} ν δ) {w.opds(*map(w.load, arguments_))} (λ v.")
     lifetimes = nest(["ν ∷ []"] + [f"κ{sub(k)}" for k in ps.slices])
     w.use(1, ["post"], f"later (some (λ (r : {ps.answer}). ((‵ (flft (ν ∷ []) fullShare) ⊛ tokens) ⊛ ‵ (N.the-row .own r (v ∷ []))) ⊛ raw (ensured 𝓤 H A g.ended (g.clauses 𝓤 H A at-mem run) {lifetimes} (x′ {b} δ) tt r)))", "id⊢ 𝓤 _")
@@ -152,7 +151,7 @@ def made(w, ps, b, arguments_):
 
 
 def answered(w, a):
-    """the result is in the local behind the one that was lent"""
+    """the result is in the local after the borrowed one"""
     w.drop()
     w.front("result")
     w.split("alive", "given")
@@ -160,7 +159,7 @@ def answered(w, a):
 
 
 def ended(w):
-    """the lifetime is ended, and what was lent is in front"""
+    """ends the lifetime, and puts what was borrowed in front"""
     w.front("alive")
     w.split("nu", "toks")
     w.add("lft-end ! tt $")
@@ -184,7 +183,7 @@ def entered(w, ps, locals_):
 
 
 def arguments(w, ps, array):
-    """the slice of the local array, and each lent array lent on; gives the local that each argument is in"""
+    """makes the slice of the local array, and reborrows each borrowed array; returns the local of each argument"""
     pointer, whole = f"_{array + 2}", f"_{array + 3}"
     a, s = f"l{sub(array)}", f"l{sub(array + 3)}"
     w.set(f"_{array}", "of-opd ! " + w.load("_1"), array_typed("h", "was"))
@@ -195,7 +194,7 @@ def arguments(w, ps, array):
 
 
 def lend(w, ps, a):
-    """the first n of the local are lent for a lifetime of the call, and what the callee asks is in front"""
+    """borrows the first n of the local for the lifetime of the call, and puts what the callee needs in front"""
     for k in ps.shared:
         w.front(f"own{k}")
         w.use(1, ["both"], f"own{sub(k)} ⊛ own{sub(k)}", f"shr-slice-copy 𝓤 H A W (named 0) κ{sub(k)} u32 .twice x{sub(k)} (s{sub(k)} ∷ [])")
@@ -209,7 +208,7 @@ def lend(w, ps, a):
 
 
 def called(w, ps, a, arguments_):
-    """the call is made; what it ensures is known as e, the last lists' lengths as e₀, e₁ and e₂, and its result is in the local"""
+    """makes the call; names what it ensures e, and the final lists' lengths e₀, e₁ and e₂; the result is in the local"""
     made(w, ps, f"l{sub(a)}", arguments_)
     for k in [0, *MUTS]:
         w.last_list(k, f"e{sub(k)}")
@@ -217,7 +216,7 @@ def called(w, ps, a, arguments_):
 
 
 def back(w, a):
-    """the lifetime is ended, and the local comes back whole"""
+    """ends the lifetime, which gives the whole local back"""
     b = f"l{sub(a)}"
     ended(w)
     w.use(3, ["array"], f"later (‵ (Arr (mem T.the-row) (length (take n h)) .lies (zs .0) {b} 0))", f"slice-back 𝓤 H A W T.the-row (ν ∷ []) δ (zs .0) (length (take n h)) {b} 0")
@@ -233,7 +232,7 @@ def back(w, a):
 def walk(ps):
     w = Walk(["toks", "owns"])
     w.let_go = "let-go"
-    a = len(ps.all) + 3  # the local array; behind it the answer, the array's address and its slice, two locals for each lent array, and the copy
+    a = len(ps.all) + 3  # the local array; after it the answer, the array's address and its slice, two locals for each borrowed array, and the copy
     copy = a + 4 + 2 * len(MUTS)
     entered(w, ps, copy + 1)
     arguments_ = arguments(w, ps, a)
@@ -251,7 +250,7 @@ def walk(ps):
 
 
 def parted(ps):
-    """what goes to the callee, its rows apart"""
+    """the arguments of the callee, with their rows separated"""
     steps = ["move ! (2 ∷ []) $"]
     context = ["own", "tokens", "lent"]
     rest = list(ps.slices)
@@ -310,7 +309,7 @@ def words(ps):
 
 
 def write(template, functions, proofs, words):
-    """the proof of each function, by its template and the words for it"""
+    """the proof of each function, from its template and its words"""
     for p in functions:
         ps = Params(p["params"])
         ps.answer = p["Answer"]

@@ -1,28 +1,29 @@
 #!/usr/bin/env python3
-"""Writes the walks of the functions that an engine links: crates/engine/proofs/FUNCTION/Proof.antt.
+"""Writes the walks of the functions that an engine links: crates/sumpheron/proofs/FUNCTION/Proof.antt.
 
     book::CALLEE(book, times, prices, ..)
 
-or, of a message letter,
+or, for a message letter,
 
     let message = letters::LETTER(time, ..);
     book::tell(book, times, prices, stock, message)
 
-What is lent is lent on whole. pass.tpl has what is said of a function beside its MIR; the steps through the MIR are worked out
-here, over a context by name (ctx.py). Where a body in crates/engine/src/lib.rt changes, `rt mir engine` shows the MIR that the
+The borrowed arrays are passed on whole. pass.tpl has the text of a proof except for the steps through the MIR; this script computes the
+steps, over a context by name (ctx.py). Where a body in crates/sumpheron/src/lib.rt changes, `rt mir sumpheron` shows the MIR that the
 steps must follow.
 """
 from ctx import Walk, sub
-from lent import HERE, MESSAGE, call, enter, filled, heard, number_typed, seen, slice_typed, struct_typed, used
+from lent import HERE, MESSAGE, call, enter, filled, heard, number_typed, slice_typed, struct_typed, used
 from part import at, nest, product, rows_apart
 
-PROOFS = HERE.parents[1] / "crates" / "engine" / "proofs"
+PROOFS = HERE.parents[1] / "crates" / "sumpheron" / "proofs"
 
 BOOK = ["book", "mut", "mut", "u32"]
 PLAIN = [
     {"callee": "setup", "Answer": "Answer", "params": [*BOOK, "shared"], "promise": "SetsUp x₃ (x₄ .now)"},
     {"callee": "settle", "Answer": "Notice", "params": [*BOOK, "u32"], "promise": "SettlesIn x₃ x₄"},
     {"callee": "read", "Answer": "Answer", "params": ["records", "shared", "shared", "u32"], "promise": "r ≡ readingIn x₃"},
+    {"callee": "next", "Answer": "Upcoming", "params": ["records", "shared", "shared", "u32"], "promise": "r ≡ comingIn x₃"},
 ]
 # how many numbers each letter's message has
 LETTERS = {"trade": 2, "quote": 4, "opening": 3, "pause": 2, "reopening": 3, "closing": 3}
@@ -33,7 +34,7 @@ SLOT = {"T.the-row": "TS", "u32": "PS"}
 
 
 class Params:
-    """the parameters from 0; a slice's lifetime is its place among the slices"""
+    """the parameters from 0; a slice's lifetime is its index among the slices"""
 
     def __init__(self, kinds):
         self.kind = dict(enumerate(kinds))
@@ -66,7 +67,7 @@ def number_owned(k):
 
 
 def joined(items, context):
-    """the rows in their order, from the slices in the context; an item that is a text is how its row is made"""
+    """the rows in order, from the slices in the context; a string says how its row is made"""
     steps = ["nothing ! $"]
     context = ["joined", *context]
     for item in reversed(items):
@@ -90,7 +91,7 @@ def entered(ps, locals_):
 
 
 def made(w, ps, p, local):
-    """the message is made; that it is the letter's is known as c"""
+    """makes the message; names the fact that it is the letter's message: c"""
     w.use(0, ["pre"], "raw (Make 𝓤 H A at-mem run .pre to-make)", "goes-make")
     call(w, "Make", "known-make", "to-make", [f"_{k + 1}" for k in p["made"]], "u", ("m", "Message", "‵ ftrue", "P.the-row"), "mk.ended (mk.clauses 𝓤 H A at-mem run) tt xm", "true", "m-was")
     heard(w, p["is_made"], "said-make m", "c")
@@ -100,7 +101,7 @@ def made(w, ps, p, local):
 
 
 def lent_on(w, ps, first):
-    """each array that is to be changed is borrowed anew, each that is read is passed as it is; gives the locals of all"""
+    """reborrows each mutable array, and passes each shared one unchanged; returns the locals of all"""
     place = {k: f"_{k + 1}" for k in ps.slices}
     for n, k in enumerate(ps.muts):
         pointer, array = (f"_{first + 2 * n + i}" for i in (0, 1))
@@ -111,7 +112,7 @@ def lent_on(w, ps, first):
 
 
 def given_up(w, ps, goes, to):
-    """what the callee asks is in front; of a shared slice a copy stays"""
+    """puts what the callee needs in front; a copy of each shared slice stays"""
     mine = {k: f"own{k}" for k in ps.slices}
     for k in ps.shared:
         s = sub(k)
@@ -133,7 +134,7 @@ def lasts(ps, zs):
 
 
 def called(w, ps, p, arguments):
-    """the call is made; what it ensures is known as e, and its result is in the local that is returned"""
+    """makes the call; names what it ensures e; the result is in the returned local"""
     to, x, message = (f"({word} m)" for word in ("to-step", "x′", "")) if p["letter"] else ("to-step", "x′", "")
     arrays = nest([f"κ{sub(k)}" for k in ps.slices])
     call(w, "Step", "known", to, arguments, "v", ("r", p["Answer"], "tokens", "N.the-row"), f"g.ended (g.clauses 𝓤 H A at-mem run) {arrays} {x}", "toks", "is")
@@ -149,7 +150,7 @@ def called(w, ps, p, arguments):
 
 
 def walk(ps, p):
-    first = len(ps.all) + 1  # behind the parameters the message, and two locals for each array that is borrowed anew
+    first = len(ps.all) + 1  # behind the parameters: the message, and two locals for each reborrowed array
     behind = first + 1 if p["letter"] else first
     w = entered(ps, behind + 2 * len(ps.muts))
     if p["letter"]:
@@ -170,7 +171,7 @@ def walk(ps, p):
 
 
 def of_letter(p):
-    """what is said of the message and of the function that makes it"""
+    """the words about the message and the function that makes it"""
     names = ["of_message", "message", "of_known", "known_message", "to_step", "made_uses", "made_contract", "made_call", "made_known", "made_from", "made_name", "made_in", "made_cited"]
     if not p["letter"]:
         return {**dict.fromkeys(names, ""), "to_step": "to-step"}

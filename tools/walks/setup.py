@@ -5,7 +5,7 @@
 #         fill(book, setups, end); wipe(times); wipe(prices);
 #         answer
 #     }
-# The template says what is known before and after; this script adds the steps, with the places of the context worked out.
+# The template has what is known before and after; this script adds the steps, with the positions in the context.
 import pathlib
 
 from ctx import Walk, sub
@@ -13,7 +13,7 @@ from ctx import Walk, sub
 here = pathlib.Path(__file__).resolve().parent
 out = here.parents[1] / "crates/book/proofs/setup/Proof.antt"
 
-# the locals after what is returned; the slices of `LENT` are lent on, each through a pointer and a new slice
+# the locals after the result; the slices of `LENT` are reborrowed, each through a pointer and a new slice
 BOOK, TIMES, PRICES, END, LIST, ANSWER = (f"_{k}" for k in range(1, 7))
 LENGTHS, TEST, UNIT = ("_7", "_8", "_9"), "_10", "_11"
 LENT = {BOOK: ("_12", "_13"), TIMES: ("_14", "_15"), PRICES: ("_16", "_17")}
@@ -52,7 +52,7 @@ def begin():
     return w
 
 
-# the list is lent to a callee, and kept
+# a callee borrows the list, which is kept
 def twice(w):
     w.front("own3")
     w.use(1, ["both"], "own₃ ⊛ own₃", "shr-slice-copy 𝓤 H A W (named 0) κ₃ u32 .twice x₃ (s₃ ∷ [])")
@@ -82,7 +82,7 @@ def refuse(w):
     w.o += b.o
 
 
-# slice k is lent to a callee for good: `said` is what the callee says of its last list zs
+# slice k is passed to a callee and not used again: `said` is what the callee says about its final list zs
 def lend(w, k, contract, to, module, names, x, ends, said, tokens, more=()):
     s, slice_ = sub(k), list(LENT)[k]
     pointer, new = LENT[slice_]

@@ -1,13 +1,13 @@
 #!/usr/bin/env python3
-"""Writes the walks of the functions that lend one record that is passed by value: crates/stock_day/proofs/lend/FUNCTION/Proof.antt.
+"""Writes the walks of the functions that borrow one record passed by value: crates/stock_day/proofs/lend/FUNCTION/Proof.antt.
 
     let mut v = r;
     let ANSWER = book::FUNCTION_one(&mut v, ..);
     MADE { ANSWER, next: v }
 
-The parameters behind r are the callee's behind its record: two `&mut [u32]`, and a number or a message by value. whole.tpl
-has what is said of a function beside its MIR; the steps through the MIR are worked out here and, where lending the first n
-records takes the same ones, in part.py, over a context by name (ctx.py). Where a body in crates/stock_day/src/lend.rt
+The parameters after r are the callee's after its record: two `&mut [u32]`, and a number or a message by value. whole.tpl has the text of a
+proof except for the steps through the MIR; this script computes the steps, over a context by name (ctx.py). It takes those that both have
+in common from part.py. Where a body in crates/stock_day/src/lend.rt
 changes, `rt mir stock_day` shows the MIR that the steps must follow.
 """
 from lent import HERE, struct_typed
@@ -39,14 +39,14 @@ def entered(w, ps, locals_):
 
 
 def arguments(w, ps, local):
-    """the address of the local record, and each lent array lent on; gives the local that each argument is in"""
+    """takes the address of the local record, and reborrows each borrowed array; returns the local of each argument"""
     w.set(f"_{local}", "of-opd ! " + w.load("_1"), struct_typed("T", "h", "was"))
     w.set(f"_{local + 2}", w.addr_of(f"_{local}"), "(tt, tt)")
     return [f"_{local + 2}"] + lent_on(w, ps, local + 1, 1)
 
 
 def lend(w, ps, a):
-    """the local is lent for a lifetime of the call, and what the callee asks is in front"""
+    """borrows the local for the lifetime of the call, and puts what the callee needs in front"""
     b = lifetime(w, a)
     w.use(1, ["lies"], f"‵ (mem T.the-row .lies h {b} 0)", f"cell-in 𝓤 H A W h {b} was")
     w.use(1, ["lends"], f"later (some (λ (δ : GName). own₀ {b} ν δ ⊛ ‵ (flent (ν ∷ []) (Body (mem T.the-row) {b} 0 δ))))", f"lends-ref 𝓤 H A W T.the-row (named 0) (ν ∷ []) h {b} 0")
@@ -54,7 +54,7 @@ def lend(w, ps, a):
 
 
 def called(w, ps, a, arguments_):
-    """the call is made; what it ensures is known as e, the last lists' lengths as e₁ and e₂, and its result is in the local"""
+    """makes the call; names what it ensures e, and the final lists' lengths e₁ and e₂; the result is in the local"""
     made(w, ps, f"l{sub(a)}", arguments_)
     w.fsplit("final0", "lasts")
     w.front("lasts")
@@ -64,7 +64,7 @@ def called(w, ps, a, arguments_):
 
 
 def back(w, a):
-    """the lifetime is ended, and the local comes back"""
+    """ends the lifetime, which gives the local back"""
     b = f"l{sub(a)}"
     ended(w)
     w.use(3, ["lies"], f"later (‵ (mem T.the-row .lies (zs .0) {b} 0))", f"ref-back 𝓤 H A W T.the-row (ν ∷ []) δ (zs .0) {b} 0")
@@ -77,7 +77,7 @@ def back(w, a):
 def walk(ps):
     w = Walk(["toks", "owns"])
     w.let_go = "let-go"
-    a = len(ps.all) + 2  # the local record; behind it the answer, the record's address, two locals for each lent array, and the copy
+    a = len(ps.all) + 2  # the local record; after it the answer, the record's address, two locals for each borrowed array, and the copy
     copy = a + 3 + 2 * len(MUTS)
     entered(w, ps, copy + 1)
     arguments_ = arguments(w, ps, a)

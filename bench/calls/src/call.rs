@@ -1,4 +1,4 @@
-//! A call on a book, and what it gives back, in a form that both implementations share.
+//! A call on a book and its result, in a form that both implementations share.
 
 use std::hint::black_box;
 
@@ -15,7 +15,7 @@ pub enum Call {
 }
 
 impl Call {
-    /// The stock that the call is about; setup is about all, and counts for the first.
+    /// The stock that the call is about. Setup is about all stocks, and counts as the first.
     pub fn stock(&self) -> usize {
         match *self {
             Call::Setup => 0,
@@ -25,22 +25,22 @@ impl Call {
     }
 }
 
-/// All that a call gives back: the answer's nine numbers, the moment's mark and its time.
+/// The result of a call: the answer's nine numbers, the moment's mark and its time.
 #[derive(Clone, Copy, Debug, PartialEq, Eq)]
-pub struct Given([u64; 9], u64, u64);
+pub struct Given([u32; 9], u32, u32);
 
 impl From<raw::Answer> for Given {
     fn from(a: raw::Answer) -> Given {
         let answer = [
-            a.number.into(),
-            a.state.into(),
-            a.reference.into(),
+            a.number,
+            a.state,
+            a.reference,
             a.lower,
             a.upper,
-            a.bid.into(),
-            a.bid_flag.into(),
-            a.offer.into(),
-            a.offer_flag.into(),
+            a.bid,
+            a.bid_flag,
+            a.offer,
+            a.offer_flag,
         ];
         Given(answer, 0, 0)
     }
@@ -49,7 +49,7 @@ impl From<raw::Answer> for Given {
 impl From<raw::Notice> for Given {
     fn from(notice: raw::Notice) -> Given {
         let Given(answer, ..) = notice.answer.into();
-        Given(answer, notice.moment.mark.into(), notice.moment.time)
+        Given(answer, notice.mark, notice.time)
     }
 }
 
@@ -66,23 +66,23 @@ impl From<second::Answer> for Given {
             a.offer,
             a.offer_flag,
         ];
-        Given(answer.map(u64::from), 0, 0)
+        Given(answer, 0, 0)
     }
 }
 
 impl From<second::Notice> for Given {
     fn from(notice: second::Notice) -> Given {
         let Given(answer, ..) = notice.answer.into();
-        Given(answer, notice.mark.into(), notice.time.into())
+        Given(answer, notice.mark.into(), notice.time)
     }
 }
 
-/// Who looks at what calls give back.
+/// Gets the result of each call.
 pub trait See {
     fn see<T: Copy + Into<Given>>(&mut self, given: &T);
 }
 
-/// Looks at it only so that no call can be left out by the compiler.
+/// Uses each result only so that the compiler cannot remove a call.
 pub struct Glance;
 
 impl See for Glance {
@@ -92,7 +92,7 @@ impl See for Glance {
     }
 }
 
-/// Notes it all, to be compared.
+/// Records each result, for comparison.
 impl See for Vec<Given> {
     fn see<T: Copy + Into<Given>>(&mut self, given: &T) {
         self.push((*given).into());

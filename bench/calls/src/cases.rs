@@ -1,4 +1,4 @@
-//! The cases: for each a book, how it comes to its start, and the calls that are timed from there.
+//! The cases: for each a book, the calls that bring it to its start, and the calls that are timed from there.
 
 use calls::call::Call;
 use generate::chance::Chance;
@@ -8,22 +8,22 @@ use crate::script::Script;
 
 const END: u32 = 23_400_000;
 const PRICE: u32 = 100_000;
-/// After every moment that is dated by the opening or by 900,000.
+/// A time after every moment that follows from the opening or is at 900,000.
 const NOON: u32 = 1_000_000;
-/// As many calls as are timed in one stretch where the case itself does not say.
+/// How many calls are timed in one stretch, unless the case says otherwise.
 const STRETCH: u32 = 1_024;
 
-/// What is timed, and from where.
+/// A case: what is timed, and from which start.
 pub struct Case {
     pub name: String,
     pub setups: Vec<Setup>,
     pub end: u32,
-    /// Brings the book, once set up, to its start.
+    /// The calls that bring the book from its setup to the start.
     pub before: Vec<Call>,
     pub calls: Vec<Call>,
-    /// By how many a stretch's time is divided.
+    /// The number by which a stretch's time is divided.
     pub counted: usize,
-    /// Whether a pass over the held trades is a measure for it.
+    /// Whether the floor, a pass over the held trades, is timed for it.
     pub has_floor: bool,
 }
 
@@ -64,12 +64,12 @@ fn next_quote(i: u32, stock: u32, time: u32) -> Message {
     quote(stock, time, i % 16, PRICE - away, PRICE + 2 * away)
 }
 
-/// A book of stocks as they are set up.
+/// A book of stocks just after setup.
 fn empty_book(stocks: u32) -> Script {
     Script::new(&setups(stocks), END)
 }
 
-/// A book of stocks in Trading with all quotes and so many trades each, the last at the clock, and no moment due.
+/// A book of stocks in Trading, with all quotes and this many trades each, the last at the clock, and no moment due.
 fn book(stocks: u32, held: u32) -> Script {
     let mut script = empty_book(stocks);
     for stock in 0..stocks {
@@ -85,7 +85,7 @@ fn book(stocks: u32, held: u32) -> Script {
     script
 }
 
-/// The case whose start the script was cut at, timed on the calls since.
+/// The case that starts where the script was cut, and times the calls since.
 fn case(name: &str, before: Vec<Call>, mut script: Script) -> Case {
     let calls = script.cut();
     let stocks = script.book.len() as u32;
@@ -117,7 +117,7 @@ fn quotes(stocks: u32, held: u32) -> Case {
     }
 }
 
-/// Four stocks, so that a stretch is long though each has room for few more.
+/// Four stocks, so that a stretch is long although each stock has room for only a few more trades.
 fn trades(from: u32) -> Case {
     let mut script = book(4, from);
     let before = script.cut();

@@ -2,7 +2,7 @@
 
 use std::time::{Duration, Instant};
 
-/// What Linux on 64 bits calls a timespec.
+/// A timespec of 64-bit Linux.
 #[derive(Default)]
 #[repr(C)]
 struct Clock {
@@ -14,17 +14,17 @@ extern "C" {
     fn clock_gettime(which: i32, clock: *mut Clock) -> i32;
 }
 
-/// The processor's time that this thread has used, so that what others use in between does not count.
+/// The processor time of this thread, which leaves out what other threads use.
 pub fn used() -> Duration {
     const OF_THIS_THREAD: i32 = 3;
     let mut clock = Clock::default();
-    // SAFETY: the pointer is to a timespec.
+    // SAFETY: the pointer is to a valid timespec.
     let failed = unsafe { clock_gettime(OF_THIS_THREAD, &mut clock) };
     assert_eq!(failed, 0);
     Duration::new(clock.seconds as u64, clock.nanoseconds as u32)
 }
 
-/// Tells how long ago it was last looked at; what a look itself takes is subtracted.
+/// Measures the time between two readings, less the time that a reading itself takes.
 #[derive(Clone, Copy)]
 pub struct Stopwatch {
     last: Instant,
@@ -44,7 +44,7 @@ impl Stopwatch {
         self.last = Instant::now();
     }
 
-    /// Nanoseconds since the last look or restart.
+    /// Nanoseconds since the last reading or restart.
     #[inline(always)]
     pub fn lap(&mut self) -> u64 {
         let now = Instant::now();

@@ -1,4 +1,4 @@
-//! Counts instructions by valgrind, which runs this program again for one side of one case.
+//! Counts instructions with valgrind, which runs this program again for one side of one case.
 
 use std::process::Command;
 
@@ -7,7 +7,7 @@ use calls::sides::{Library, Second, Side};
 
 use crate::cases::{self, Case};
 
-/// What the program does when it is run to be counted: a side comes to a case's start and plays the calls so many times.
+/// What the program does under valgrind: brings a side to a case's start, and plays the calls this many times.
 pub fn run(case: usize, side: &str, times: usize) {
     let case = cases::ALL[case]();
     match side {
@@ -26,7 +26,7 @@ fn play<S: Side>(case: &Case, times: usize) {
     }
 }
 
-/// Instructions per call: what playing the calls once takes more than not playing them; none where valgrind is not installed.
+/// Instructions per call: the difference between playing the calls once and not at all. `None` if valgrind is not installed.
 pub fn instructions(case: usize, side: &str, counted: usize) -> Option<f64> {
     let [without, with] = ["0", "1"].map(|times| executed(&case.to_string(), side, times));
     Some((with? - without?) as f64 / counted as f64)

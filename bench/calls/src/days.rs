@@ -12,7 +12,7 @@ pub struct Day {
     pub calls: Vec<Call>,
 }
 
-/// The day of this seed: each message comes after its settling, and its stock is read after it.
+/// The calls of this seed's day: each message after its settling, with a read of its stock after it.
 pub fn day(seed: u64) -> Day {
     let text = generate::day(seed);
     let mut input = Input::new(&text[..]);
@@ -33,7 +33,7 @@ pub fn day(seed: u64) -> Day {
     }
 }
 
-/// The setups, the session's end, and how many messages are announced.
+/// The setups, the session's end, and the announced number of messages.
 fn start(input: &mut Input<&[u8]>) -> Option<(Vec<Setup>, u32, u32)> {
     let contents = input.next_line().and_then(lines::contents)?;
     let mut setups = Vec::new();

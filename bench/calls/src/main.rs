@@ -1,8 +1,8 @@
-//! Times the library's calls against the second implementation and the floor.
+//! Compares the times of the library's calls with those of the second implementation and of the floor.
 //!
 //!     calls table HEADER           prints the cases' table under this header
 //!     calls slowest                prints a table of the slowest single calls
-//!     calls count CASE SIDE TIMES  plays a case's calls so many times, to be counted
+//!     calls count CASE SIDE TIMES  plays a case's calls this many times, under valgrind
 
 mod cases;
 mod count;
@@ -51,7 +51,7 @@ fn print_table(header: &str) {
     }
 }
 
-/// A number with so many decimals, or a dash.
+/// A number with this many decimals, or a dash.
 fn cell(value: Option<f64>, decimals: usize) -> String {
     value.map_or("-".to_string(), |value| format!("{value:.decimals$}"))
 }

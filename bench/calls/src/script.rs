@@ -1,4 +1,4 @@
-//! Calls that are played while they are written down, so that later ones can depend on what became of the stock.
+//! Plays calls while it records them, so that later calls can depend on the stock's state.
 
 use calls::call::Call;
 use second::{Message, Setup, Stock};
@@ -9,7 +9,7 @@ pub struct Script {
 }
 
 impl Script {
-    /// A book as it is set up, by setups that are in range.
+    /// A book just after setup. The setups must be in range.
     pub fn new(setups: &[Setup], end: u32) -> Script {
         Script {
             book: second::setup(setups, end).expect("the setups are in range"),
@@ -37,7 +37,7 @@ impl Script {
         self.calls.push(Call::Read { stock });
     }
 
-    /// The calls so far, and none from now on.
+    /// Takes the calls recorded so far out of the script.
     pub fn cut(&mut self) -> Vec<Call> {
         std::mem::take(&mut self.calls)
     }

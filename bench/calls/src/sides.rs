@@ -1,4 +1,4 @@
-//! The three that are timed: the library, the second implementation, and the floor.
+//! The three sides that are timed: the library, the second implementation, and the floor.
 
 use std::hint::black_box;
 use std::mem::take;
@@ -8,17 +8,17 @@ use sumpheron::raw;
 
 use crate::call::{Call, See};
 
-/// One that plays calls on a book of its own.
+/// A side, which plays calls on its own book.
 pub trait Side: Clone {
     /// A book that is not yet set up.
     fn new(setups: &[Setup], end: u32) -> Self;
     /// Plays the calls one after another.
     fn play(&mut self, calls: &[Call], see: &mut impl See);
-    /// Becomes as `start` is, in the memory that it has.
+    /// Copies `start` into this side's own memory.
     fn restore(&mut self, start: &Self);
 }
 
-/// The library, with the arrays that it is lent.
+/// The library, with the arrays of its book.
 #[derive(Clone)]
 pub struct Library {
     end: u32,
@@ -29,7 +29,7 @@ pub struct Library {
 }
 
 impl Library {
-    /// The bytes that every call is lent.
+    /// The size of the book's arrays, in bytes.
     pub fn lent(&self) -> usize {
         let places = size_of_val(&self.times[..]) + size_of_val(&self.prices[..]);
         size_of_val(&self.records[..]) + places
@@ -120,7 +120,7 @@ impl Side for Library {
     }
 }
 
-/// The second implementation, with the book that it makes at setup.
+/// The second implementation, with the book that its setup makes.
 #[derive(Clone)]
 pub struct Second {
     end: u32,
@@ -166,7 +166,7 @@ impl Side for Second {
         }
     }
 
-    /// The windows keep the room for 512 trades that setup gave them, which a copy would not have.
+    /// Copies into the existing windows, which keep their capacity for 512 trades; a clone would lose it.
     fn restore(&mut self, start: &Second) {
         for (mine, theirs) in self.book.iter_mut().zip(&start.book) {
             let mut trades = take(&mut mine.trades);

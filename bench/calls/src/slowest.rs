@@ -1,5 +1,5 @@
-//! The slowest single call of each kind over generated days. Of each call the least time of all rounds counts, so that what disturbs
-//! the machine does not; of each kind the most of its calls.
+//! Finds the slowest single call of each kind over generated days. The time of a call is the least of all rounds, so that disturbances of
+//! the machine do not count. The time of a kind is the greatest of its calls.
 
 use std::hint::black_box;
 
@@ -10,7 +10,7 @@ use calls::sides::{Library, Second, Side};
 use crate::days::{self, Day};
 use crate::timing;
 
-/// The days are those of seeds 1 to this one.
+/// The seeds of the days are 1 to this number.
 const DAYS: u64 = 40;
 /// How often each side plays all days, one side after the other.
 const ROUNDS: usize = 100;
@@ -26,7 +26,7 @@ const KINDS: [&str; 8] = [
     "closing",
 ];
 
-/// The place of a call's kind; setup has none.
+/// The index of a call's kind; setup has none.
 fn kind(call: &Call) -> Option<usize> {
     match call {
         Call::Setup => None,
@@ -36,7 +36,7 @@ fn kind(call: &Call) -> Option<usize> {
     }
 }
 
-/// A kind, how many calls of it there are, and the nanoseconds of its slowest on either side.
+/// A kind, how many calls of it there are, and the nanoseconds of its slowest call on each side.
 pub struct Slowest {
     pub kind: &'static str,
     pub calls: usize,
@@ -44,7 +44,7 @@ pub struct Slowest {
     pub second: u64,
 }
 
-/// Notes for each call of a day the least time that it ever took.
+/// Records the least time of each call of a day.
 struct Watch {
     stopwatch: Stopwatch,
     least: Vec<u64>,
@@ -87,7 +87,7 @@ impl<'a, S: Side> Play<'a, S> {
         }
     }
 
-    /// Plays the day twice, the first time unwatched, so that code and book are in the processor's caches.
+    /// Plays the day twice. Only the second time is measured, so that code and book are in the processor's caches.
     fn play(&mut self) {
         self.side.restore(&self.start);
         self.side.play(&self.day.calls, &mut Glance);
@@ -102,7 +102,7 @@ fn plays<S: Side>(days: &[Day], stopwatch: Stopwatch) -> Vec<Play<'_, S>> {
     days.iter().map(|day| Play::new(day, stopwatch)).collect()
 }
 
-/// The most of each kind over all days.
+/// The slowest call of each kind over all days.
 fn most<S>(plays: &[Play<S>]) -> [u64; KINDS.len()] {
     let mut most = [0; KINDS.len()];
     for play in plays {
@@ -115,7 +115,7 @@ fn most<S>(plays: &[Play<S>]) -> [u64; KINDS.len()] {
     most
 }
 
-/// Plays the days on both sides, which are seen to answer alike first.
+/// Checks that both sides give the same answers, and then times the days on both.
 pub fn find() -> Vec<Slowest> {
     let days: Vec<Day> = (1..=DAYS).map(days::day).collect();
     for day in &days {

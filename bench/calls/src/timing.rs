@@ -1,4 +1,4 @@
-//! Times the three in turn, so that what disturbs the machine disturbs all of them.
+//! Times the three sides in turn, so that a disturbance of the machine affects all of them.
 
 use std::time::Duration;
 
@@ -9,9 +9,9 @@ use second::{Setup, HELD_AT_MOST};
 
 use crate::cases::Case;
 
-/// How often all cases are gone through, so that a busy time of the machine is spread over them.
+/// How often all cases are repeated, so that a busy period of the machine is spread over them.
 const SWEEPS: usize = 5;
-/// How often the three take turns in each.
+/// How often the three sides take turns in each case.
 const ROUNDS: usize = 21;
 /// How long one turn lasts.
 const TURN: Duration = Duration::from_millis(2);
@@ -23,7 +23,7 @@ struct Start {
     floor: Option<Floor>,
 }
 
-/// Nanoseconds per call, the least of all rounds, and the ratios of the library to the others: the median of the rounds' ratios.
+/// Nanoseconds per call, the least of all rounds, and the library's ratio to each other side, the median of the rounds.
 pub struct Times {
     pub library: f64,
     pub second: f64,
@@ -32,7 +32,7 @@ pub struct Times {
     pub to_floor: Option<f64>,
 }
 
-/// Brings both to the case's start, and sees to it that they answer alike up to there and on all calls that are timed.
+/// Brings both sides to the case's start, and checks that they give the same answers up to there and on all timed calls.
 fn start(case: &Case) -> Start {
     let (mut library, mut second) = start_alike(&case.setups, case.end, &case.before);
     let start = (library.clone(), second.clone());
@@ -54,7 +54,7 @@ fn start(case: &Case) -> Start {
     }
 }
 
-/// Both sides after setup and these calls, all answered alike.
+/// Both sides after setup and these calls; all their answers must be the same.
 pub fn start_alike(setups: &[Setup], end: u32, calls: &[Call]) -> (Library, Second) {
     let mut library = Library::new(setups, end);
     let mut second = Second::new(setups, end);
@@ -98,7 +98,7 @@ fn floor_turn(floor: &Floor) -> f64 {
     })
 }
 
-/// What the library, the second and the floor took for one call in one round; without a floor, no number.
+/// The time of one call in one round for the library, the second and the floor; NaN if there is no floor.
 type Round = [f64; 3];
 
 /// Times all cases.

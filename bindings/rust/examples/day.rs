@@ -1,12 +1,13 @@
-//! Plays a day: reads it from standard input, settles each stock before each message, and prints what becomes of it, as
-//! docs/RULES.md says under "The day program", for up to 64 stocks. A malformed line ends it with status 1.
+//! Plays a day of up to 64 stocks: reads it from standard input, settles each stock before each message, and prints the results in the
+//! format of docs/RULES.md, "The day program". A malformed line ends the program with status 1.
 //!
 //!     cargo run --example day < ../../examples/day.txt
 
+use std::fmt;
 use std::io::{self, Read};
 use std::process::ExitCode;
 use std::str::SplitInclusive;
-use sumpheron::{Answer, Book, Setup};
+use sumpheron::{Answer, Book, Error, Number, Quote, Refusal, Setup};
 
 fn main() -> io::Result<ExitCode> {
     let mut day = Vec::new();
@@ -16,15 +17,31 @@ fn main() -> io::Result<ExitCode> {
         rest: day.split_inclusive('\n'),
         number: 0,
     };
-    if play(&mut lines).is_some() {
-        return Ok(ExitCode::SUCCESS);
-    }
-    let number = lines.number;
-    eprintln!("day: line {number} is malformed, missing or refused");
-    Ok(ExitCode::FAILURE)
+    Ok(match play(&mut lines) {
+        Ok(()) => ExitCode::SUCCESS,
+        Err(fault) => {
+            eprintln!("day: line {}: {fault}", lines.number);
+            ExitCode::FAILURE
+        }
+    })
 }
 
-/// The lines that are still to be read, and the number of the last that was.
+/// Why a day ends before its last line.
+enum Fault {
+    Malformed,
+    NoBook(Error),
+}
+
+impl fmt::Display for Fault {
+    fn fmt(&self, out: &mut fmt::Formatter<'_>) -> fmt::Result {
+        match self {
+            Fault::Malformed => out.write_str("it is malformed or missing"),
+            Fault::NoBook(error) => error.fmt(out),
+        }
+    }
+}
+
+/// The lines that are still to be read, and the number of the line that was read last.
 struct Lines<'a> {
     rest: SplitInclusive<'a, char>,
     number: usize,
@@ -47,18 +64,23 @@ fn number(field: &str) -> Option<u32> {
 }
 
 /// Plays the day, or ends at a line that is malformed.
-fn play(lines: &mut Lines) -> Option<()> {
-    let (mut book, messages) = set_up(lines)?;
+fn play(lines: &mut Lines) -> Result<(), Fault> {
+    let (end, setups, messages) = contents(lines).ok_or(Fault::Malformed)?;
+    let mut book = Book::new(end, &setups).map_err(Fault::NoBook)?;
     for _ in 0..messages {
-        let (letter, numbers) = lines.next()?;
-        let answer = tell(&mut book, letter, &numbers)?;
-        print(numbers[0], numbers[1].into(), letter, &answer);
+        let (letter, numbers) = lines.next().ok_or(Fault::Malformed)?;
+        let told = tell(&mut book, letter, &numbers).ok_or(Fault::Malformed)?;
+        let (number, answer) = match told {
+            Ok(answer) => (Number::Done, Some(answer)),
+            Err(refusal) => (refusal.number, refusal.answer),
+        };
+        print(numbers[0], numbers[1], letter, number, answer);
     }
-    Some(())
+    Ok(())
 }
 
-/// Sets a book up by the first lines of a day, and says how many messages follow.
-fn set_up(lines: &mut Lines) -> Option<(Book, u32)> {
+/// What the first lines of a day say: when the session ends, how its stocks start, and how many messages follow.
+fn contents(lines: &mut Lines) -> Option<(u32, Vec<Setup>, u32)> {
     let (stocks, messages, end) = match lines.next()? {
         ("C", numbers) if numbers.len() == 3 => (numbers[0], numbers[1], numbers[2]),
         _ => return None,
@@ -70,11 +92,11 @@ fn set_up(lines: &mut Lines) -> Option<(Book, u32)> {
             _ => return None,
         }
     }
-    Some((Book::new(end, &setups).ok()?, messages))
+    Some((end, setups, messages))
 }
 
-/// Tells the book a message.
-fn tell(book: &mut Book, letter: &str, numbers: &[u32]) -> Option<Answer> {
+/// Tells the book a message, unless its line is malformed.
+fn tell(book: &mut Book, letter: &str, numbers: &[u32]) -> Option<Result<Answer, Refusal>> {
     Some(match (letter, numbers) {
         ("T", &[s, t, price]) => settled(book, s, t).trade(s, t, price),
         ("Q", &[s, t, who, bid, offer]) => settled(book, s, t).quote(s, t, who, bid, offer),
@@ -86,25 +108,31 @@ fn tell(book: &mut Book, letter: &str, numbers: &[u32]) -> Option<Answer> {
     })
 }
 
-/// The book, once every moment of a stock that is due by a time is done.
+/// Settles a stock to a time, and returns the book.
 fn settled(book: &mut Book, stock: u32, time: u32) -> &mut Book {
     let settled = book.settle_all(stock, time, |notice| {
-        if let Some(moment) = notice.moment {
-            let letter = moment.mark.to_string();
-            print(stock, moment.time, &letter, &notice.answer);
-        }
+        let letter = notice.mark.to_string();
+        let (number, answer) = (Number::Done, Some(notice.answer));
+        print(stock, notice.time, &letter, number, answer);
     });
-    // What refuses the settling refuses the message too, whose answer is printed.
+    // If the settling is refused, the message is refused too, and its number is printed.
     settled.ok();
     book
 }
 
-fn print(stock: u32, time: u64, letter: &str, answer: &Answer) {
-    let a = answer.raw();
+/// Prints a number and the stock's values, which are zeros if the call was about no stock.
+fn print(stock: u32, time: u32, letter: &str, number: Number, answer: Option<Answer>) {
+    let state = answer.map_or(0, |stock| stock.state.raw());
+    let reference = answer.and_then(|stock| stock.reference).unwrap_or(0);
+    let bands = answer.and_then(|stock| stock.bands);
+    let (lower, upper) = bands.map_or((0, 0), |bands| (bands.lower, bands.upper));
+    let quote =
+        |quote: Option<Quote>| quote.map_or((0, 0), |quote| (quote.price, quote.flag.raw()));
+    let (bid, bid_flag) = quote(answer.and_then(|stock| stock.bid));
+    let (offer, offer_flag) = quote(answer.and_then(|stock| stock.offer));
     print!(
-        "{stock} {time} {letter} {} {} {}",
-        a.number, a.state, a.reference
+        "{stock} {time} {letter} {} {state} {reference}",
+        number.raw()
     );
-    print!(" {} {}", a.lower, a.upper);
-    println!(" {} {} {} {}", a.bid, a.bid_flag, a.offer, a.offer_flag);
+    println!(" {lower} {upper} {bid} {bid_flag} {offer} {offer_flag}");
 }

@@ -1,21 +1,17 @@
-//! What the calls on a book answer.
+//! What calls on a book return.
 
-use crate::{raw, Flag, Mark, Number, State};
+use crate::{raw, Flag, Mark, Number, State, HIGHEST_PRICE, VERSION};
+use std::{error, fmt};
 
-/// What a call answers: its number, and what the stock is after it, unchanged after a refusal.
-///
-/// After `Rubbish`, `BadSetup` and `NoStock` no stock is spoken of: the state is the number 0, which is `Waiting`, and the rest
-/// is `None`.
+/// A stock's values.
 #[non_exhaustive]
 #[derive(Clone, Copy, Debug, PartialEq, Eq)]
 pub struct Answer {
-    /// Whether the call was done, and if not, why.
-    pub number: Number,
     /// The stock's state.
     pub state: State,
     /// The reference price, if there is one.
     pub reference: Option<u32>,
-    /// The bands in force: in `Trading` and in `Limit` only.
+    /// The bands in force; there are none outside `Trading` and `Limit`.
     pub bands: Option<Bands>,
     /// The best bid, if there is one.
     pub bid: Option<Quote>,
@@ -27,9 +23,9 @@ pub struct Answer {
 #[derive(Clone, Copy, Debug, PartialEq, Eq)]
 pub struct Bands {
     /// The lowest price, which may be 0.
-    pub lower: u64,
+    pub lower: u32,
     /// The highest price, which may lie above the range of prices.
-    pub upper: u64,
+    pub upper: u32,
 }
 
 /// A best bid or a best offer.
@@ -38,59 +34,71 @@ pub struct Bands {
 pub struct Quote {
     /// Its price.
     pub price: u32,
-    /// What is to be said of it.
+    /// How it stands to the bands.
     pub flag: Flag,
 }
 
-/// What settling answers.
+/// A moment that settling did.
 #[non_exhaustive]
 #[derive(Clone, Copy, Debug, PartialEq, Eq)]
 pub struct Notice {
-    /// The number, and what the stock is after it.
+    /// Which moment it is.
+    pub mark: Mark,
+    /// When it happened, which may be before the time that was settled to.
+    pub time: u32,
+    /// The stock's values after it.
     pub answer: Answer,
-    /// The moment that was done: there is one exactly if the number is `Done`.
-    pub moment: Option<Moment>,
 }
 
-/// A moment that was done.
+/// A moment that is still to come.
 #[non_exhaustive]
 #[derive(Clone, Copy, Debug, PartialEq, Eq)]
 pub struct Moment {
     /// Which moment it is.
     pub mark: Mark,
-    /// When it happened, which may be before the time that was settled to.
-    pub time: u64,
+    /// When it is due.
+    pub time: u32,
+}
+
+/// A call that was refused, and changed nothing.
+#[non_exhaustive]
+#[derive(Clone, Copy, Debug, PartialEq, Eq)]
+pub struct Refusal {
+    /// The reason, which is never `Done`.
+    pub number: Number,
+    /// The stock's values, which the call did not change; `None` after `Rubbish`, `BadSetup` and `NoStock`, which are about no stock.
+    pub answer: Option<Answer>,
+}
+
+/// Why a book could not be made.
+#[non_exhaustive]
+#[derive(Clone, Copy, Debug, PartialEq, Eq)]
+pub enum Error {
+    /// The linked library has this version instead of [`VERSION`], so calling it would not be safe.
+    OtherVersion(u32),
+    /// The setup was refused.
+    Refused(Refusal),
 }
 
 impl Answer {
-    /// The answer if the call was done, and otherwise the number that refused it.
-    pub fn done(self) -> Result<Answer, Number> {
-        match self.number {
-            Number::Done => Ok(self),
-            refusal => Err(refusal),
-        }
-    }
-
-    /// The answer as the library gives it.
-    pub fn raw(&self) -> raw::Answer {
-        raw::Answer {
-            number: self.number.raw(),
-            state: self.state.raw(),
-            reference: self.reference.unwrap_or(0),
-            lower: self.bands.map_or(0, |bands| bands.lower),
-            upper: self.bands.map_or(0, |bands| bands.upper),
-            bid: self.bid.map_or(0, |bid| bid.price),
-            bid_flag: self.bid.map_or(0, |bid| bid.flag.raw()),
-            offer: self.offer.map_or(0, |offer| offer.price),
-            offer_flag: self.offer.map_or(0, |offer| offer.flag.raw()),
-        }
+    /// Whether a trade at this price may be made now. In `Waiting` every price from 1 to [`HIGHEST_PRICE`] may trade, in `Trading` and
+    /// `Limit` those from the lower band to the upper band, both included, and in every other state none.
+    #[must_use]
+    pub fn may_trade(&self, price: u32) -> bool {
+        let allowed = match self.state {
+            State::Waiting => true,
+            State::Trading | State::Limit => self.bands.map_or(false, |bands| bands.contain(price)),
+            _ => false,
+        };
+        allowed && (1..=HIGHEST_PRICE).contains(&price)
     }
 }
 
 impl Bands {
-    /// Whether a trade at this price would be within the bands, both included.
+    /// Whether a price lies between the bands, both included.
+    #[must_use]
     pub fn contain(&self, price: u32) -> bool {
-        (self.lower..=self.upper).contains(&price.into())
+        (self.lower..=self.upper).contains(&price)
     }
 }
 
@@ -101,41 +109,94 @@ impl Quote {
     }
 }
 
-impl Notice {
-    /// The notice as the library gives it.
-    pub fn raw(&self) -> raw::Notice {
-        raw::Notice {
-            answer: self.answer.raw(),
-            moment: raw::Moment {
-                mark: self.moment.map_or(0, |moment| moment.mark.raw()),
-                time: self.moment.map_or(0, |moment| moment.time),
-            },
+impl Moment {
+    /// The moment that the library gives, if there is one.
+    pub(crate) fn coming(raw: raw::Upcoming) -> Result<Option<Moment>, Refusal> {
+        let raw::Upcoming { number, mark, time } = raw;
+        let mark = mark.into();
+        match number.into() {
+            Number::Done => Ok((mark != Mark::NoMoment).then_some(Moment { mark, time })),
+            number => Err(Refusal::of(number)),
         }
     }
 }
 
-impl From<raw::Answer> for Answer {
-    fn from(raw: raw::Answer) -> Answer {
+impl Refusal {
+    /// Whether a trade at this price may be made now, by what the stock is. No price may trade if the refusal is about no stock, or
+    /// is [`Unsettled`](Number::Unsettled): then a moment is due that may pause the stock.
+    #[must_use]
+    pub fn may_trade(&self, price: u32) -> bool {
+        let answer = self.answer.filter(|_| self.number != Number::Unsettled);
+        answer.map_or(false, |answer| answer.may_trade(price))
+    }
+
+    /// A refusal that is about no stock.
+    pub(crate) const fn of(number: Number) -> Refusal {
+        let answer = None;
+        Refusal { number, answer }
+    }
+}
+
+impl TryFrom<raw::Answer> for Answer {
+    type Error = Refusal;
+
+    fn try_from(raw: raw::Answer) -> Result<Answer, Refusal> {
         let raw::Answer { lower, upper, .. } = raw;
-        Answer {
-            number: raw.number.into(),
+        let answer = Answer {
             state: raw.state.into(),
             reference: (raw.reference != 0).then_some(raw.reference),
             // An upper band in force is at least 100.
             bands: (upper != 0).then_some(Bands { lower, upper }),
             bid: Quote::of(raw.bid, raw.bid_flag),
             offer: Quote::of(raw.offer, raw.offer_flag),
+        };
+        match Number::from(raw.number) {
+            Number::Done => Ok(answer),
+            number => Err(Refusal {
+                number,
+                answer: number.has_stock().then_some(answer),
+            }),
         }
     }
 }
 
-impl From<raw::Notice> for Notice {
-    fn from(raw: raw::Notice) -> Notice {
-        let raw::Moment { mark, time } = raw.moment;
-        let mark = mark.into();
-        Notice {
-            answer: raw.answer.into(),
-            moment: (mark != Mark::NoMoment).then_some(Moment { mark, time }),
+impl TryFrom<raw::Notice> for Notice {
+    type Error = Refusal;
+
+    fn try_from(raw: raw::Notice) -> Result<Notice, Refusal> {
+        let answer = raw.answer.try_into()?;
+        Ok(Notice {
+            mark: raw.mark.into(),
+            time: raw.time,
+            answer,
+        })
+    }
+}
+
+impl From<Refusal> for Error {
+    fn from(refusal: Refusal) -> Error {
+        Error::Refused(refusal)
+    }
+}
+
+impl fmt::Display for Refusal {
+    fn fmt(&self, out: &mut fmt::Formatter<'_>) -> fmt::Result {
+        self.number.fmt(out)
+    }
+}
+
+impl fmt::Display for Error {
+    fn fmt(&self, out: &mut fmt::Formatter<'_>) -> fmt::Result {
+        match self {
+            Error::OtherVersion(library) => write!(
+                out,
+                "the library is of version {library}, and these bindings are for version {VERSION}"
+            ),
+            Error::Refused(refusal) => refusal.fmt(out),
         }
     }
 }
+
+impl error::Error for Refusal {}
+
+impl error::Error for Error {}

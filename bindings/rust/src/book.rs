@@ -1,6 +1,7 @@
 //! The book of stocks, and the calls on it.
 
-use crate::{raw, Answer, Notice, Number, MOST_STOCKS, PLACES, SETUP_NUMBERS};
+use crate::{raw, Answer, Error, Moment, Notice, Number, Refusal};
+use crate::{MOST_STOCKS, PLACES, SETUP_NUMBERS, VERSION};
 use std::{fmt, ops::Range};
 
 /// How a stock starts the day.
@@ -18,7 +19,7 @@ pub struct Setup {
 }
 
 impl Setup {
-    /// A setup of these numbers, which are judged only where a book is set up with it.
+    /// Makes a setup of these numbers. They are validated when a book is set up with it.
     pub const fn new(tier: u32, leverage: u32, primary: u32, close: u32) -> Setup {
         Setup {
             tier,
@@ -28,15 +29,15 @@ impl Setup {
         }
     }
 
-    /// The numbers in the order in which the library takes them.
+    /// The numbers in the order that the library expects.
     fn numbers(&self) -> [u32; SETUP_NUMBERS] {
         [self.tier, self.leverage, self.primary, self.close]
     }
 }
 
-/// The stocks of one trading day: a record for each, and the trade times and trade prices that the last five minutes hold.
+/// The stocks of one trading day: a record for each, and the times and prices of its trades in the last five minutes.
 ///
-/// A clone is a snapshot: calls on the one do not touch the other, and both answer the same to the same calls.
+/// A clone is a snapshot: calls on one book do not change the other, and the same calls give the same results on both.
 #[derive(Clone, PartialEq, Eq)]
 pub struct Book {
     records: Vec<raw::Record>,
@@ -48,8 +49,9 @@ pub struct Book {
 macro_rules! lend {
     ($book:ident, $pointer:ident, $function:ident $(, $argument:expr)*) => {{
         let Book { records, times, prices } = $book;
-        // SAFETY: each array is a vector's own pointer and length, no two vectors overlap, and the arrays that the function
-        // writes are borrowed by this call alone, since it takes them as *mut, which as_mut_ptr gives of a &mut only.
+        // SAFETY: a book exists only if the library has the declared version. Each array is a vector's own pointer and length, and no
+        // two vectors overlap. A function that writes takes *mut pointers, which as_mut_ptr gives only for a &mut borrow, so no other
+        // call uses the arrays at the same time.
         unsafe {
             raw::$function(
                 records.$pointer(), records.len(),
@@ -58,50 +60,59 @@ macro_rules! lend {
                 $(, $argument)*
             )
         }
-        .into()
     }};
 }
 
 impl Book {
-    /// A book of one stock for each setup, for a session that ends at `end` (3,600,000 to 23,400,000).
+    /// Makes a book with one stock for each setup, for a session that ends at `end`, from 3,600,000 to 23,400,000.
     ///
-    /// It is refused as [`Rubbish`](Number::Rubbish) with no setup or more than 64, and as [`BadSetup`](Number::BadSetup) where a
-    /// number is out of range.
-    pub fn new(end: u32, setups: &[Setup]) -> Result<Book, Number> {
+    /// Refused as [`Rubbish`](Number::Rubbish) if there is no setup or more than 64, and as [`BadSetup`](Number::BadSetup) if a number
+    /// is out of range. Fails with [`OtherVersion`](Error::OtherVersion) if the library and these bindings are of different versions.
+    pub fn new(end: u32, setups: &[Setup]) -> Result<Book, Error> {
         if !(1..=MOST_STOCKS).contains(&setups.len()) {
-            return Err(Number::Rubbish);
+            return Err(Refusal::of(Number::Rubbish).into());
         }
         let places = setups.len() * PLACES;
         let mut book = Book::from_parts(
             vec![raw::Record::default(); setups.len()],
             vec![0; places],
             vec![0; places],
-        );
+        )?;
         book.set_up(end, setups)?;
         Ok(book)
     }
 
-    /// Starts the whole book anew, where it stands. A refusal leaves it as it was, also where there are not as many setups as stocks.
-    pub fn set_up(&mut self, end: u32, setups: &[Setup]) -> Result<(), Number> {
+    /// Sets up the whole book again, in place. There must be one setup for each stock. A refusal leaves the book unchanged.
+    pub fn set_up(&mut self, end: u32, setups: &[Setup]) -> Result<(), Refusal> {
         let list: Vec<u32> = setups.iter().flat_map(Setup::numbers).collect();
-        let answer: Answer = lend!(
+        let answer: Result<Answer, Refusal> = lend!(
             self,
             as_mut_ptr,
             sumpheron_setup,
             end,
             list.as_ptr(),
             list.len()
-        );
-        answer.done().map(|_| ())
+        )
+        .try_into();
+        answer.map(|_| ())
     }
 
-    /// A book of arrays that were kept. They may hold anything: calls on a book of the wrong shape, or on a stock that is
-    /// rubbish, are refused as [`Rubbish`](Number::Rubbish).
-    pub fn from_parts(records: Vec<raw::Record>, times: Vec<u32>, prices: Vec<u32>) -> Book {
-        Book {
-            records,
-            times,
-            prices,
+    /// Makes a book of arrays that were saved. Their contents need no validation: calls on a book of the wrong shape, or on a stock
+    /// that is rubbish, are refused as [`Rubbish`](Number::Rubbish). Fails only with [`OtherVersion`](Error::OtherVersion), if the
+    /// library and these bindings are of different versions.
+    pub fn from_parts(
+        records: Vec<raw::Record>,
+        times: Vec<u32>,
+        prices: Vec<u32>,
+    ) -> Result<Book, Error> {
+        // SAFETY: the function takes no argument, and returns a number in every version.
+        match unsafe { raw::sumpheron_version() } {
+            VERSION => Ok(Book {
+                records,
+                times,
+                prices,
+            }),
+            other => Err(Error::OtherVersion(other)),
         }
     }
 
@@ -110,12 +121,12 @@ impl Book {
         (self.records, self.times, self.prices)
     }
 
-    /// Puts a stock of another book, its record and its places, in place of a stock of this one, which may be of another size.
-    /// What is copied is not judged.
+    /// Replaces a stock of this book with stock `other` of the book `from`: its record and its places. The books may have different
+    /// numbers of stocks. The copied stock is not validated.
     ///
-    /// It is refused as [`Rubbish`](Number::Rubbish) where one of the books has a wrong shape, and as
-    /// [`NoStock`](Number::NoStock) where one has no stock of that number.
-    pub fn copy_stock(&mut self, stock: u32, from: &Book, other: u32) -> Result<(), Number> {
+    /// Refused as [`Rubbish`](Number::Rubbish) if one of the books has a wrong shape, and as [`NoStock`](Number::NoStock) if one has
+    /// no stock of that number.
+    pub fn copy_stock(&mut self, stock: u32, from: &Book, other: u32) -> Result<(), Refusal> {
         let (to, of) = (self.places(stock)?, from.places(other)?);
         self.records[stock as usize] = from.records[other as usize];
         self.times[to.clone()].copy_from_slice(&from.times[of.clone()]);
@@ -123,15 +134,15 @@ impl Book {
         Ok(())
     }
 
-    /// Where a stock's places stand, if the shape is right and the stock is there.
-    fn places(&self, stock: u32) -> Result<Range<usize>, Number> {
+    /// The range of a stock's places, if the book has the right shape and the stock exists.
+    fn places(&self, stock: u32) -> Result<Range<usize>, Refusal> {
         let (stocks, stock) = (self.stocks(), stock as usize);
         let right = |length| stocks <= MOST_STOCKS && length == stocks * PLACES;
         if stocks == 0 || !right(self.times.len()) || !right(self.prices.len()) {
-            return Err(Number::Rubbish);
+            return Err(Refusal::of(Number::Rubbish));
         }
         if stock >= stocks {
-            return Err(Number::NoStock);
+            return Err(Refusal::of(Number::NoStock));
         }
         Ok(stock * PLACES..(stock + 1) * PLACES)
     }
@@ -156,44 +167,49 @@ impl Book {
         &self.prices
     }
 
-    /// What a stock is.
-    #[must_use]
-    pub fn read(&self, stock: u32) -> Answer {
-        lend!(self, as_ptr, sumpheron_read, stock)
+    /// A stock's present values.
+    pub fn read(&self, stock: u32) -> Result<Answer, Refusal> {
+        lend!(self, as_ptr, sumpheron_read, stock).try_into()
     }
 
-    /// Does a stock's earliest moment, if it is not after `time`, and is otherwise refused as [`NothingDue`](Number::NothingDue).
-    #[must_use]
-    pub fn settle(&mut self, stock: u32, time: u32) -> Notice {
-        lend!(self, as_mut_ptr, sumpheron_settle, stock, time)
+    /// A stock's earliest moment that is still to come; `None` if there is none, as in a Closed stock.
+    ///
+    /// Settling to its time or later does that moment. Settling to an earlier time is refused as
+    /// [`NothingDue`](Number::NothingDue).
+    pub fn next(&self, stock: u32) -> Result<Option<Moment>, Refusal> {
+        Moment::coming(lend!(self, as_ptr, sumpheron_next, stock))
     }
 
-    /// Does all of a stock's moments that are not after `time`, giving each notice to `each`, and answers what the stock then
-    /// is, with the number [`NothingDue`](Number::NothingDue); otherwise with the number that refused it.
+    /// Does a stock's earliest moment if it is due by `time`, and is otherwise refused as [`NothingDue`](Number::NothingDue).
+    pub fn settle(&mut self, stock: u32, time: u32) -> Result<Notice, Refusal> {
+        lend!(self, as_mut_ptr, sumpheron_settle, stock, time).try_into()
+    }
+
+    /// Does all of a stock's moments that are due by `time`, passes each notice to `each`, and returns the stock's values after them.
     pub fn settle_all(
         &mut self,
         stock: u32,
         time: u32,
         mut each: impl FnMut(Notice),
-    ) -> Result<Answer, Number> {
+    ) -> Result<Answer, Refusal> {
         loop {
-            let notice = self.settle(stock, time);
-            match notice.answer.number {
-                Number::Done => each(notice),
-                Number::NothingDue => return Ok(notice.answer),
-                refusal => return Err(refusal),
+            match self.settle(stock, time) {
+                Ok(notice) => each(notice),
+                Err(Refusal {
+                    number: Number::NothingDue,
+                    answer: Some(answer),
+                }) => return Ok(answer),
+                Err(refusal) => return Err(refusal),
             }
         }
     }
 
     /// T: an eligible trade.
-    #[must_use]
-    pub fn trade(&mut self, stock: u32, time: u32, price: u32) -> Answer {
-        lend!(self, as_mut_ptr, sumpheron_trade, stock, time, price)
+    pub fn trade(&mut self, stock: u32, time: u32, price: u32) -> Result<Answer, Refusal> {
+        lend!(self, as_mut_ptr, sumpheron_trade, stock, time, price).try_into()
     }
 
-    /// Q: a participant's bid and offer; a price of 0 is no bid, or no offer.
-    #[must_use]
+    /// Q: a participant's bid and offer; a price of 0 means no bid, or no offer.
     pub fn quote(
         &mut self,
         stock: u32,
@@ -201,7 +217,7 @@ impl Book {
         participant: u32,
         bid: u32,
         offer: u32,
-    ) -> Answer {
+    ) -> Result<Answer, Refusal> {
         lend!(
             self,
             as_mut_ptr,
@@ -212,11 +228,17 @@ impl Book {
             bid,
             offer
         )
+        .try_into()
     }
 
     /// O: the primary's opening price, before 300,000.
-    #[must_use]
-    pub fn opening(&mut self, stock: u32, time: u32, participant: u32, price: u32) -> Answer {
+    pub fn opening(
+        &mut self,
+        stock: u32,
+        time: u32,
+        participant: u32,
+        price: u32,
+    ) -> Result<Answer, Refusal> {
         lend!(
             self,
             as_mut_ptr,
@@ -226,17 +248,22 @@ impl Book {
             participant,
             price
         )
+        .try_into()
     }
 
     /// P: the primary declares a pause, while a side has the flag [`NonExecutable`](crate::Flag::NonExecutable).
-    #[must_use]
-    pub fn pause(&mut self, stock: u32, time: u32, participant: u32) -> Answer {
-        lend!(self, as_mut_ptr, sumpheron_pause, stock, time, participant)
+    pub fn pause(&mut self, stock: u32, time: u32, participant: u32) -> Result<Answer, Refusal> {
+        lend!(self, as_mut_ptr, sumpheron_pause, stock, time, participant).try_into()
     }
 
     /// R: the primary reopens a paused stock at a price.
-    #[must_use]
-    pub fn reopening(&mut self, stock: u32, time: u32, participant: u32, price: u32) -> Answer {
+    pub fn reopening(
+        &mut self,
+        stock: u32,
+        time: u32,
+        participant: u32,
+        price: u32,
+    ) -> Result<Answer, Refusal> {
         lend!(
             self,
             as_mut_ptr,
@@ -246,11 +273,17 @@ impl Book {
             participant,
             price
         )
+        .try_into()
     }
 
     /// X: the primary's closing, after a late pause.
-    #[must_use]
-    pub fn closing(&mut self, stock: u32, time: u32, participant: u32, price: u32) -> Answer {
+    pub fn closing(
+        &mut self,
+        stock: u32,
+        time: u32,
+        participant: u32,
+        price: u32,
+    ) -> Result<Answer, Refusal> {
         lend!(
             self,
             as_mut_ptr,
@@ -260,11 +293,12 @@ impl Book {
             participant,
             price
         )
+        .try_into()
     }
 }
 
 impl fmt::Debug for Book {
-    /// The records, without the places of trades.
+    /// Prints the records, and leaves out the trades.
     fn fmt(&self, out: &mut fmt::Formatter<'_>) -> fmt::Result {
         out.debug_struct("Book")
             .field("records", &self.records)

@@ -1,8 +1,8 @@
-//! The numbers of an answer by their names.
+//! Names for the numbers in an answer.
 
-use std::{error, fmt};
+use std::fmt;
 
-/// Declares an enum that has a case for every number of 32 bits; each named case has its number and what it is displayed as.
+/// Declares an enum with a case for every 32-bit number; each named case has its number and its display text.
 macro_rules! numbers {
     (
         $(#[$about:meta])*
@@ -13,12 +13,12 @@ macro_rules! numbers {
         #[derive(Clone, Copy, Debug, PartialEq, Eq, Hash)]
         pub enum $name {
             $($(#[$doc])* $case,)+
-            /// A number that this version has no name for. A later version may have one, so do not go by the number.
+            /// A number that has no name in this version. A later version may name it, so do not match on the number.
             Unknown(u32),
         }
 
         impl $name {
-            /// The number as the library gives it.
+            /// The number that the library uses.
             pub const fn raw(self) -> u32 {
                 match self {
                     $(Self::$case => $number,)+
@@ -54,12 +54,13 @@ macro_rules! numbers {
 }
 
 numbers! {
-    /// What a call answers. Every number but `Done` leaves the book as it stood. Of several that apply the first in this order
-    /// is given, but that `NoStock` comes before the rubbish of a stock.
+    /// The result of a call. Every number but `Done` is a refusal, which changes nothing. If several refusals apply, the call gives
+    /// the one that is listed first here, with one exception: `NoStock` comes after a book of the wrong shape and before a rubbish
+    /// record.
     Number {
         /// The call was done.
         Done = 0, "done";
-        /// 0 or over 64 stocks, an array of the wrong length, or a record that is rubbish.
+        /// The book has no stocks or more than 64, an array has the wrong length, or the stock's record is rubbish.
         Rubbish = 1, "the book has a wrong shape, or the stock is rubbish";
         /// Setup: the session's end or a stock's setup is out of range.
         BadSetup = 2, "the session's end or a setup is out of range";
@@ -69,28 +70,37 @@ numbers! {
         OutOfRange = 4, "a price, a participant or a time is out of range";
         /// A message's time is before the stock's clock.
         BeforeClock = 5, "the time is before the stock's clock";
-        /// A moment not after the message's time is not settled: settle first.
+        /// A moment is due by the message's time and was not settled: settle first.
         Unsettled = 6, "a moment is not settled";
         /// The participant is not the stock's primary listing exchange.
         NotPrimary = 8, "the participant is not the primary";
         /// The stock is `Closed`.
         ClosedStock = 7, "the stock is closed";
-        /// The state takes no such message; also an opening at 300,000 or later, and a pause while no side is `NonExecutable`.
+        /// The stock's state does not take this message; also an opening at 300,000 or later, and a pause while no side is
+        /// `NonExecutable`.
         WrongState = 9, "the state takes no such message";
         /// A trade in a pause.
         InPause = 11, "a trade in a pause";
-        /// A reopening before the pause is 300,000 old, a closing before the session's end.
+        /// A reopening in the first 300,000 of a pause, or a closing before the session's end.
         NotYet = 10, "it is too early to reopen or to close";
         /// A trade outside the bands in force.
         OutsideBands = 12, "a trade outside the bands";
-        /// A trade while 512 are held.
+        /// A trade while the stock holds 512 trades.
         NoRoom = 13, "there is no room for a trade";
         /// Settling: nothing is due.
         NothingDue = 14, "nothing is due";
     }
 }
 
-impl error::Error for Number {}
+impl Number {
+    /// Whether an answer with this number has a stock's values. It is false for a number that has no name in this version.
+    pub(crate) const fn has_stock(self) -> bool {
+        !matches!(
+            self,
+            Self::Rubbish | Self::BadSetup | Self::NoStock | Self::Unknown(_)
+        )
+    }
+}
 
 numbers! {
     /// The state of a stock.
@@ -99,11 +109,11 @@ numbers! {
         Waiting = 0, "Waiting";
         /// Trades between the bands, both included.
         Trading = 1, "Trading";
-        /// The same, while a quote stands at a band: a pause follows 15,000 after the entry if it stays.
+        /// Trades between the bands while a quote stands at a band; if this lasts 15,000, a pause starts.
         Limit = 2, "Limit";
-        /// No trades until the primary reopens the stock, or 600,000 have run.
+        /// No trades until the primary reopens the stock, or the pause has lasted 600,000.
         Paused = 3, "Paused";
-        /// A pause begun at the session's end - 600,000 or later: no more trades.
+        /// A pause that started at the session's end - 600,000 or later: the stock does not trade again.
         LatePause = 4, "Late pause";
         /// The day is over for this stock.
         Closed = 5, "Closed";
@@ -111,11 +121,11 @@ numbers! {
 }
 
 numbers! {
-    /// What is to be said of a best bid or a best offer.
+    /// How a best bid or a best offer stands to the bands in force.
     Flag {
-        /// There is none; never beside a price.
+        /// There is no bid, or no offer; a [`Quote`](crate::Quote) never has this flag.
         Absent = 0, "absent";
-        /// None of the others, or no bands are in force.
+        /// Neither of the following, or no bands are in force.
         Plain = 1, "plain";
         /// A bid below the lower band, an offer above the upper band.
         NonExecutable = 2, "non-executable";
@@ -125,9 +135,9 @@ numbers! {
 }
 
 numbers! {
-    /// Which moment it is, by the letter that the rules give it.
+    /// Which moment it is: the rules name each by a letter.
     Mark {
-        /// No moment was done; never beside a time.
+        /// No moment was done; a [`Notice`](crate::Notice) never has this mark.
         NoMoment = 0, "none";
         /// The session's end; the stock closes.
         Z = 0x7a, "z";
@@ -141,7 +151,7 @@ numbers! {
         C = 0x63, "c";
         /// Trades are 300,000 old and leave the window.
         V = 0x76, "v";
-        /// At 300,000; the mean of the trades so far is the first reference.
+        /// At 300,000; the mean of the trades so far becomes the first reference.
         F = 0x66, "f";
         /// A reference is 30,000 old and may be replaced from now on.
         H = 0x68, "h";
@@ -149,7 +159,7 @@ numbers! {
 }
 
 impl Mark {
-    /// The moment's letter, and `?` for a mark that is no small letter.
+    /// The moment's letter, or `?` if the mark is not the code of a lowercase letter.
     pub fn letter(self) -> char {
         match char::from_u32(self.raw()) {
             Some(letter) if letter.is_ascii_lowercase() => letter,

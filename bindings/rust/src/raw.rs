@@ -1,8 +1,8 @@
-//! The library's functions and structs as they are: include/sumpheron.h in Rust.
+//! The library's functions and structs: include/sumpheron.h in Rust.
 //!
-//! [`Book`](crate::Book) calls them safely. Each array is a pointer and a length; no pointer is null, each is aligned and has as
-//! many elements as its length says, no two arrays of one call overlap, and no call but [`sumpheron_read`] runs beside another
-//! on the same book.
+//! [`Book`](crate::Book) calls them safely. Each array is passed as a pointer and a length. No pointer may be null, each must be aligned
+//! and have as many elements as its length says, and no two arrays of one call may overlap. Calls on one book must not run concurrently;
+//! only [`sumpheron_read`] and [`sumpheron_next`] may run concurrently with each other.
 
 #![allow(clippy::too_many_arguments)]
 
@@ -22,32 +22,32 @@ pub struct Record {
     /// The previous close.
     pub close: u32,
     /// The session's end.
-    pub end: u32,
+    pub session_end: u32,
     /// The state's number.
     pub state: u32,
     /// The time of the last accepted message or settled moment.
     pub clock: u32,
     /// Not 0: the moment f has not happened.
-    pub early: u32,
+    pub f_to_come: u32,
     /// When Limit was last entered.
-    pub entry: u32,
+    pub limit_entry: u32,
     /// When a pause last started.
-    pub pause: u32,
+    pub pause_start: u32,
     /// The reference price, 0 for none.
     pub reference: u32,
     /// Since when it has been the reference.
-    pub start: u32,
+    pub reference_start: u32,
     /// Not 0: the moment h of this start has not happened.
-    pub hold: u32,
+    pub h_to_come: u32,
     /// The bid of each participant, 0 for none.
     pub bids: [u32; PARTICIPANTS],
     /// The offer of each participant, 0 for none.
     pub offers: [u32; PARTICIPANTS],
     /// How many trades are held.
-    pub count: u32,
+    pub trades: u32,
 }
 
-/// What a call answers.
+/// What a call returns.
 #[non_exhaustive]
 #[repr(C)]
 #[derive(Clone, Copy, Debug, Default, PartialEq, Eq)]
@@ -59,9 +59,9 @@ pub struct Answer {
     /// The reference price, 0 for none.
     pub reference: u32,
     /// The lower band in force, 0 for none.
-    pub lower: u64,
+    pub lower: u32,
     /// The upper band in force, 0 for none.
-    pub upper: u64,
+    pub upper: u32,
     /// The best bid, 0 for none.
     pub bid: u32,
     /// The number of its [`Flag`](crate::Flag).
@@ -72,31 +72,38 @@ pub struct Answer {
     pub offer_flag: u32,
 }
 
-/// A moment.
-#[non_exhaustive]
-#[repr(C)]
-#[derive(Clone, Copy, Debug, Default, PartialEq, Eq)]
-pub struct Moment {
-    /// The number of its [`Mark`](crate::Mark), which is a letter's code, 0 for none.
-    pub mark: u32,
-    /// When it happened.
-    pub time: u64,
-}
-
-/// What settling answers.
+/// What settling returns.
 #[non_exhaustive]
 #[repr(C)]
 #[derive(Clone, Copy, Debug, Default, PartialEq, Eq)]
 pub struct Notice {
-    /// The number, and what the stock is after it.
+    /// The number, and the stock's values after the call.
     pub answer: Answer,
-    /// The moment that was done, zeros where none was.
-    pub moment: Moment,
+    /// The number of the [`Mark`](crate::Mark) of the moment that was done, 0 if none was.
+    pub mark: u32,
+    /// When it happened, 0 if none was done.
+    pub time: u32,
+}
+
+/// A stock's earliest moment that is still to come.
+#[non_exhaustive]
+#[repr(C)]
+#[derive(Clone, Copy, Debug, Default, PartialEq, Eq)]
+pub struct Upcoming {
+    /// The number of [`Number`](crate::Number).
+    pub number: u32,
+    /// The number of its [`Mark`](crate::Mark), 0 for none.
+    pub mark: u32,
+    /// When it is due.
+    pub time: u32,
 }
 
 extern "C" {
-    /// Starts the whole book: stock i has the tier, leverage, primary and close at [`SETUP_NUMBERS`](crate::SETUP_NUMBERS) times
-    /// i of `setups`.
+    /// The version of the library. The declarations here are right only if it is [`VERSION`](crate::VERSION).
+    pub fn sumpheron_version() -> u32;
+
+    /// Initializes the whole book: stock i gets the tier, leverage, primary and close that begin at
+    /// [`SETUP_NUMBERS`](crate::SETUP_NUMBERS) times i in `setups`.
     pub fn sumpheron_setup(
         book: *mut Record,
         stocks: usize,
@@ -109,7 +116,7 @@ extern "C" {
         setups_length: usize,
     ) -> Answer;
 
-    /// Does the stock's earliest moment, if it is not after `time`.
+    /// Does the stock's earliest moment if it is due by `time`.
     pub fn sumpheron_settle(
         book: *mut Record,
         stocks: usize,
@@ -121,7 +128,7 @@ extern "C" {
         time: u32,
     ) -> Notice;
 
-    /// What the stock is; nothing changes.
+    /// Returns the stock's present values, and changes nothing.
     pub fn sumpheron_read(
         book: *const Record,
         stocks: usize,
@@ -131,6 +138,17 @@ extern "C" {
         prices_length: usize,
         stock: u32,
     ) -> Answer;
+
+    /// Returns the stock's earliest moment that is still to come, and changes nothing.
+    pub fn sumpheron_next(
+        book: *const Record,
+        stocks: usize,
+        times: *const u32,
+        times_length: usize,
+        prices: *const u32,
+        prices_length: usize,
+        stock: u32,
+    ) -> Upcoming;
 
     /// T: an eligible trade.
     pub fn sumpheron_trade(
@@ -145,7 +163,7 @@ extern "C" {
         price: u32,
     ) -> Answer;
 
-    /// Q: a participant's bid and offer; a price of 0 is none.
+    /// Q: a participant's bid and offer; a price of 0 means no bid, or no offer.
     pub fn sumpheron_quote(
         book: *mut Record,
         stocks: usize,

@@ -1,10 +1,25 @@
-//! How a `Book` behaves as a Rust value, and what its answers say.
+//! Tests a `Book` as a Rust value, and the contents of its answers.
 
-use sumpheron::{raw, Answer, Book, Flag, Mark, Notice, Number, Setup, State};
+use std::fmt::Debug;
+use sumpheron::{raw, Answer, Book, Error, Flag, Mark, Notice, Number, Refusal, Setup, State};
 use sumpheron::{MOST_STOCKS, PARTICIPANTS, PLACES};
 
 const END: u32 = 23_400_000;
 const SETUP: Setup = Setup::new(2, 1, 2, 115_000);
+
+/// The number of a refusal.
+#[track_caller]
+fn number<T: Debug>(refused: Result<T, Refusal>) -> Number {
+    refused.unwrap_err().number
+}
+
+/// The number that refused a book.
+fn no_book(end: u32, setups: &[Setup]) -> Number {
+    match Book::new(end, setups) {
+        Err(Error::Refused(refusal)) => refusal.number,
+        other => panic!("{other:?}"),
+    }
+}
 
 fn book() -> Book {
     Book::new(END, &[SETUP; 2]).unwrap()
@@ -13,23 +28,20 @@ fn book() -> Book {
 /// A book whose stock 0 trades between 92,000 and 138,000, with an offer above.
 fn trading() -> Book {
     let mut book = book();
-    book.opening(0, 1_000, 2, 115_000).done().unwrap();
-    book.quote(0, 2_000, 5, 114_900, 138_001).done().unwrap();
+    book.opening(0, 1_000, 2, 115_000).unwrap();
+    book.quote(0, 2_000, 5, 114_900, 138_001).unwrap();
     book
 }
 
 #[test]
 fn answers_name_what_the_library_says() {
     let mut book = book();
-    let waiting = book.read(0);
-    assert_eq!(
-        (waiting.number, waiting.state),
-        (Number::Done, State::Waiting)
-    );
+    let waiting = book.read(0).unwrap();
+    assert_eq!(waiting.state, State::Waiting);
     assert_eq!((waiting.reference, waiting.bands), (None, None));
     assert_eq!((waiting.bid, waiting.offer), (None, None));
 
-    let trading = book.opening(0, 1_000, 2, 115_000).done().unwrap();
+    let trading = book.opening(0, 1_000, 2, 115_000).unwrap();
     assert_eq!(
         (trading.state, trading.reference),
         (State::Trading, Some(115_000))
@@ -38,50 +50,41 @@ fn answers_name_what_the_library_says() {
     assert!(bands.contain(92_000) && bands.contain(138_000));
     assert!(!bands.contain(91_999) && !bands.contain(138_001));
 
-    let limit = book.quote(0, 2_000, 5, 138_000, 138_001);
+    let limit = book.quote(0, 2_000, 5, 138_000, 138_001).unwrap();
     let (bid, offer) = (limit.bid.unwrap(), limit.offer.unwrap());
     assert_eq!(limit.state, State::Limit);
     assert_eq!((bid.price, bid.flag), (138_000, Flag::Limit));
     assert_eq!((offer.price, offer.flag), (138_001, Flag::NonExecutable));
-    assert_eq!((limit.raw().bid, limit.raw().bid_flag), (138_000, 3));
 }
 
 #[test]
 fn settling_gives_each_moment_its_own_time() {
     let mut book = trading();
-    book.quote(0, 4_000, 7, 138_000, 0).done().unwrap();
-    assert_eq!(book.trade(0, 19_000, 115_000).number, Number::Unsettled);
-    let notice = book.settle(0, 600_000);
-    let moment = notice.moment.unwrap();
-    assert_eq!((moment.mark, moment.time), (Mark::X, 19_000));
+    book.quote(0, 4_000, 7, 138_000, 0).unwrap();
+    assert_eq!(number(book.trade(0, 19_000, 115_000)), Number::Unsettled);
+    let notice = book.settle(0, 600_000).unwrap();
+    assert_eq!((notice.mark, notice.time), (Mark::X, 19_000));
+    assert_eq!(notice.mark.letter(), 'x');
     assert_eq!(
         (notice.answer.state, notice.answer.bands),
         (State::Paused, None)
     );
-    assert_eq!(
-        (notice.raw().moment.mark, moment.mark.letter()),
-        (0x78, 'x')
-    );
 
     let mut marks = String::new();
-    let last = book.settle_all(0, 1_000_000, |notice| {
-        marks.push(notice.moment.unwrap().mark.letter())
-    });
-    let last = last.unwrap();
-    assert_eq!(
-        (last.number, last.state),
-        (Number::NothingDue, State::Paused)
-    );
-    // The bid still stands at the band when the pause ends, and leads to the next one.
+    let last = book.settle_all(0, 1_000_000, |notice| marks.push(notice.mark.letter()));
+    assert_eq!(last.unwrap().state, State::Paused);
+    // The bid still stands at the band when the pause ends, and leads to the next pause.
     assert_eq!(marks, "hvpxhw");
-    assert_eq!(book.settle(0, 1_000_000).moment, None);
+    let refusal = book.settle(0, 1_000_000).unwrap_err();
+    assert_eq!(refusal.number, Number::NothingDue);
+    assert_eq!(refusal.answer, last.ok());
 }
 
 #[test]
 fn refusals_change_nothing() {
     let mut book = trading();
     let before = book.clone();
-    let stands = book.read(0);
+    let stands = book.read(0).unwrap();
     let refusals = [
         (book.trade(2, 3_000, 115_000), Number::NoStock),
         (book.trade(0, 3_000, 0), Number::OutOfRange),
@@ -93,26 +96,17 @@ fn refusals_change_nothing() {
         (book.closing(0, 3_000, 2, 115_000), Number::WrongState),
         (book.trade(0, 3_000, 138_001), Number::OutsideBands),
         (book.quote(0, 3_000, 16, 0, 0), Number::OutOfRange),
-        (book.settle(0, 30_999).answer, Number::NothingDue),
+        (
+            book.settle(0, 30_999).map(|notice| notice.answer),
+            Number::NothingDue,
+        ),
     ];
-    for (answer, number) in refusals {
-        assert_eq!(answer.number, number);
-        assert_eq!(answer.done(), Err(number));
-        let told = (
-            answer.state,
-            answer.reference,
-            answer.bands,
-            answer.bid,
-            answer.offer,
-        );
-        let stand = (
-            stands.state,
-            stands.reference,
-            stands.bands,
-            stands.bid,
-            stands.offer,
-        );
-        assert_eq!(told == stand, number != Number::NoStock, "{number}");
+    for (refused, number) in refusals {
+        let refusal = refused.unwrap_err();
+        assert_eq!(refusal.number, number);
+        assert_eq!(refusal.to_string(), number.to_string());
+        let stock = (number != Number::NoStock).then_some(stands);
+        assert_eq!(refusal.answer, stock, "{number}");
     }
     assert_eq!(book, before);
 }
@@ -123,10 +117,8 @@ fn a_clone_is_a_snapshot() {
     let snapshot = book.clone();
     let play = |book: &mut Book| (book.trade(0, 3_000, 116_000), book.pause(0, 4_000, 2));
     let first = play(&mut book);
-    assert_eq!(
-        (first.0.number, first.1.state),
-        (Number::Done, State::Paused)
-    );
+    assert_eq!(first.0.unwrap().state, State::Trading);
+    assert_eq!(first.1.unwrap().state, State::Paused);
     assert_ne!(book, snapshot);
     assert_eq!(snapshot, trading());
 
@@ -135,7 +127,7 @@ fn a_clone_is_a_snapshot() {
     assert_eq!(again, book);
 
     let (records, times, prices) = again.into_parts();
-    assert_eq!(Book::from_parts(records, times, prices), book);
+    assert_eq!(Book::from_parts(records, times, prices), Ok(book));
 }
 
 #[test]
@@ -148,21 +140,18 @@ fn a_wrong_setup_makes_no_book() {
         (END, Setup::new(2, 1, 16, 115_000)),
         (END, Setup::new(2, 1, 2, 0)),
     ] {
-        assert_eq!(Book::new(end, &[SETUP, setup]), Err(Number::BadSetup));
+        assert_eq!(no_book(end, &[SETUP, setup]), Number::BadSetup);
     }
-    assert_eq!(Book::new(END, &[]), Err(Number::Rubbish));
-    assert_eq!(
-        Book::new(END, &[SETUP; MOST_STOCKS + 1]),
-        Err(Number::Rubbish)
-    );
+    assert_eq!(no_book(END, &[]), Number::Rubbish);
+    assert_eq!(no_book(END, &[SETUP; MOST_STOCKS + 1]), Number::Rubbish);
 }
 
 #[test]
 fn a_book_is_set_up_again_where_it_stands() {
     let mut book = trading();
     let before = book.clone();
-    assert_eq!(book.set_up(0, &[SETUP; 2]), Err(Number::BadSetup));
-    assert_eq!(book.set_up(END, &[SETUP; 3]), Err(Number::Rubbish));
+    assert_eq!(number(book.set_up(0, &[SETUP; 2])), Number::BadSetup);
+    assert_eq!(number(book.set_up(END, &[SETUP; 3])), Number::Rubbish);
     assert_eq!(book, before);
 
     let place = book.records().as_ptr();
@@ -179,7 +168,6 @@ fn sixty_four_stocks_are_apart() {
     for stock in 0..MOST_STOCKS as u32 {
         let before = book.clone();
         book.opening(stock, 1_000 + stock, 2, 100_000 + stock)
-            .done()
             .unwrap();
         for other in (0..MOST_STOCKS).filter(|&other| other != stock as usize) {
             let places = other * PLACES..(other + 1) * PLACES;
@@ -192,18 +180,18 @@ fn sixty_four_stocks_are_apart() {
         assert_eq!(book.times()[stock * PLACES], 1_000 + stock as u32);
         assert_eq!(book.prices()[stock * PLACES], 100_000 + stock as u32);
         assert_eq!(
-            book.read(stock as u32).reference,
+            book.read(stock as u32).unwrap().reference,
             Some(100_000 + stock as u32)
         );
     }
-    assert_eq!(book.read(MOST_STOCKS as u32).number, Number::NoStock);
+    assert_eq!(number(book.read(MOST_STOCKS as u32)), Number::NoStock);
 }
 
 #[test]
 fn a_stock_is_copied_from_another_book() {
     let mut book = trading();
     let mut rebuilt = Book::new(END, &[SETUP]).unwrap();
-    rebuilt.opening(0, 5_000, 2, 120_000).done().unwrap();
+    rebuilt.opening(0, 5_000, 2, 120_000).unwrap();
     let stands = book.read(0);
     assert_eq!(book.copy_stock(1, &rebuilt, 0), Ok(()));
     assert_eq!((book.read(0), book.read(1)), (stands, rebuilt.read(0)));
@@ -211,13 +199,16 @@ fn a_stock_is_copied_from_another_book() {
     assert_eq!(book.prices()[PLACES..], rebuilt.prices()[..]);
 
     let before = book.clone();
-    assert_eq!(book.copy_stock(2, &rebuilt, 0), Err(Number::NoStock));
-    assert_eq!(book.copy_stock(0, &rebuilt, 1), Err(Number::NoStock));
-    assert_eq!(book.copy_stock(u32::MAX, &rebuilt, 0), Err(Number::NoStock));
+    assert_eq!(number(book.copy_stock(2, &rebuilt, 0)), Number::NoStock);
+    assert_eq!(number(book.copy_stock(0, &rebuilt, 1)), Number::NoStock);
+    assert_eq!(
+        number(book.copy_stock(u32::MAX, &rebuilt, 0)),
+        Number::NoStock
+    );
     let (records, times, mut prices) = rebuilt.into_parts();
     prices.pop();
-    let short = Book::from_parts(records, times, prices);
-    assert_eq!(book.copy_stock(0, &short, 0), Err(Number::Rubbish));
+    let short = Book::from_parts(records, times, prices).unwrap();
+    assert_eq!(number(book.copy_stock(0, &short, 0)), Number::Rubbish);
     assert_eq!(book, before);
 }
 
@@ -225,20 +216,38 @@ fn a_stock_is_copied_from_another_book() {
 fn rubbish_is_answered() {
     let (mut records, times, prices) = trading().into_parts();
     records[0].state = 6;
-    let mut book = Book::from_parts(records.clone(), times.clone(), prices.clone());
+    let mut book = Book::from_parts(records.clone(), times.clone(), prices.clone()).unwrap();
     let before = book.clone();
-    assert_eq!(book.trade(0, 3_000, 115_000).number, Number::Rubbish);
-    assert_eq!(
-        book.settle_all(0, 3_000, |_| panic!("a moment of rubbish")),
-        Err(Number::Rubbish)
-    );
-    assert_eq!(book.read(1).number, Number::Done);
+    assert_eq!(number(book.trade(0, 3_000, 115_000)), Number::Rubbish);
+    let settled = book.settle_all(0, 3_000, |_| panic!("a moment of rubbish"));
+    assert_eq!(number(settled), Number::Rubbish);
+    assert!(book.read(1).is_ok());
     assert_eq!(book, before);
 
-    let short = Book::from_parts(records, times[1..].to_vec(), prices);
-    assert_eq!(short.read(1).number, Number::Rubbish);
-    let nothing = Book::from_parts(Vec::new(), Vec::new(), Vec::new());
-    assert_eq!(nothing.read(0).number, Number::Rubbish);
+    let short = Book::from_parts(records, times[1..].to_vec(), prices).unwrap();
+    assert_eq!(number(short.read(1)), Number::Rubbish);
+    let nothing = Book::from_parts(Vec::new(), Vec::new(), Vec::new()).unwrap();
+    assert_eq!(number(nothing.read(0)), Number::Rubbish);
+}
+
+#[test]
+fn what_comes_next_is_what_settling_does() {
+    let mut book = trading();
+    let mut done = 0;
+    while let Some(next) = book.next(0).unwrap() {
+        let before = book.clone();
+        let early = book.settle(0, next.time - 1);
+        assert_eq!(number(early), Number::NothingDue);
+        assert_eq!(book, before);
+        let notice = book.settle(0, END + 300_000).unwrap();
+        assert_eq!((notice.mark, notice.time), (next.mark, next.time));
+        done += 1;
+    }
+    assert!(done >= 5, "z, w twice, v and h at least: {done}");
+    assert_eq!(book.read(0).unwrap().state, State::Closed);
+    assert_eq!(number(book.next(2)), Number::NoStock);
+    let nothing = Book::from_parts(Vec::new(), Vec::new(), Vec::new()).unwrap();
+    assert_eq!(number(nothing.next(0)), Number::Rubbish);
 }
 
 #[test]
@@ -280,18 +289,21 @@ fn every_name_is_displayed() {
 #[test]
 fn an_answer_of_a_later_version_is_read() {
     let mut raw = raw::Notice::default();
-    raw.answer.number = 17;
     raw.answer.state = 6;
     raw.answer.offer = 5;
     raw.answer.offer_flag = 9;
-    raw.moment.mark = u32::MAX;
-    let notice = Notice::from(raw);
-    assert_eq!(notice.answer.done(), Err(Number::Unknown(17)));
-    assert_eq!(notice.answer, Answer::from(raw.answer));
+    raw.mark = u32::MAX;
+    let notice = Notice::try_from(raw).unwrap();
+    assert_eq!(Answer::try_from(raw.answer), Ok(notice.answer));
     assert_eq!(notice.answer.state, State::Unknown(6));
     assert_eq!(notice.answer.offer.unwrap().flag, Flag::Unknown(9));
-    assert_eq!(notice.moment.unwrap().mark, Mark::Unknown(u32::MAX));
-    assert_eq!(notice.raw(), raw);
+    assert_eq!(notice.mark, Mark::Unknown(u32::MAX));
+
+    // An unknown number may be about no stock, so there is no answer.
+    raw.answer.number = 17;
+    let refusal = Notice::try_from(raw).unwrap_err();
+    assert_eq!(refusal.number, Number::Unknown(17));
+    assert_eq!(refusal.answer, None);
 }
 
 #[test]
@@ -312,12 +324,11 @@ fn participants_are_sixteen() {
     let mut book = trading();
     for participant in 0..PARTICIPANTS as u32 {
         book.quote(0, 3_000, participant, 100_000 + participant, 0)
-            .done()
             .unwrap();
     }
-    assert_eq!(book.read(0).bid.unwrap().price, 100_015);
+    assert_eq!(book.read(0).unwrap().bid.unwrap().price, 100_015);
     assert_eq!(
-        book.quote(0, 3_000, PARTICIPANTS as u32, 0, 0).number,
+        number(book.quote(0, 3_000, PARTICIPANTS as u32, 0, 0)),
         Number::OutOfRange
     );
 }

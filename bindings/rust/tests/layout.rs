@@ -1,5 +1,5 @@
-//! Holds the structs of `raw` to the library. A day is played that gives every field a known value, and the memory that the
-//! library wrote is looked at: each value stands where `raw` has its field, and nothing is written before or behind what is lent.
+//! Compares the structs of `raw` with the library's. It plays a day that gives every field a known value, and then checks the memory that
+//! the library wrote: each value is where `raw` has its field, and the library wrote nothing before or behind the arrays.
 
 use std::mem::{size_of, size_of_val};
 use std::ptr::addr_of;
@@ -39,8 +39,8 @@ fn numbers(field: Field) -> Vec<Field> {
 
 fn record() -> Vec<Field> {
     let fields = fields!(Record:
-        tier, leverage, primary, close, end, state, clock, early, entry, pause, reference, start, hold,
-        bids, offers, count);
+        tier, leverage, primary, close, session_end, state, clock, f_to_come, limit_entry, pause_start,
+        reference, reference_start, h_to_come, bids, offers, trades);
     fields.into_iter().flat_map(numbers).collect()
 }
 
@@ -51,42 +51,67 @@ fn answer() -> Vec<Field> {
 fn notice() -> Vec<Field> {
     fields!(Notice:
         answer.number, answer.state, answer.reference, answer.lower, answer.upper,
-        answer.bid, answer.bid_flag, answer.offer, answer.offer_flag, moment.mark, moment.time)
+        answer.bid, answer.bid_flag, answer.offer, answer.offer_flag, mark, time)
 }
 
-// ---------------------------------------------------------------- what the day gives
+fn upcoming() -> Vec<Field> {
+    fields!(Upcoming: number, mark, time)
+}
+
+const fn size_of_field<S, F>(_: fn(&S) -> &F) -> usize {
+    size_of::<F>()
+}
+
+/// The sizes of a struct's fields add up to the size of the struct: it has no padding.
+macro_rules! no_padding {
+    ($of:ident: $($field:ident),+) => {
+        const _: () = assert!(size_of::<raw::$of>() == 0 $(+ size_of_field(|whole: &raw::$of| &whole.$field))+);
+    };
+}
+
+no_padding!(Record:
+    tier, leverage, primary, close, session_end, state, clock, f_to_come, limit_entry, pause_start,
+    reference, reference_start, h_to_come, bids, offers, trades);
+no_padding!(Answer: number, state, reference, lower, upper, bid, bid_flag, offer, offer_flag);
+no_padding!(Notice: answer, mark, time);
+no_padding!(Upcoming: number, mark, time);
+
+// ---------------------------------------------------------------- the values that the day must give
 
 /// Stock 0 as it was set up, and stock 1 at the end.
-fn records() -> [Vec<u64>; 2] {
+fn records() -> [Vec<u32>; 2] {
     let mut first = vec![1, 1, 6, 31_000, 3_700_000, 0, 0, 1];
     first.resize(record().len(), 0);
     let mut second = vec![2, 3, 9, 115_000, 3_700_000, 4, 3_150_003, 1];
     second.extend([3_090_002, 3_105_002, 100_000, 1_001, 0]);
     second.extend(159_985..=160_016);
-    second.push(HELD.into());
+    second.push(HELD);
     [first, second]
 }
 
 /// Reading in Trading, and a trade outside the bands in Limit.
-const ANSWERS: [[u64; 9]; 2] = [
+const ANSWERS: [[u32; 9]; 2] = [
     [0, 1, 100_000, 40_000, 160_000, 159_999, 1, 160_001, 2],
     [12, 2, 100_000, 40_000, 160_000, 160_000, 3, 160_001, 2],
 ];
 
-/// Settling where nothing is due, and the pause.
-const NOTICES: [[u64; 11]; 2] = [
+/// A settling with nothing due, and the pause.
+const NOTICES: [[u32; 11]; 2] = [
     [
         14, 1, 100_000, 40_000, 160_000, 159_999, 1, 160_001, 2, 0, 0,
     ],
     [0, 4, 100_000, 0, 0, 160_000, 1, 160_001, 1, 0x78, 3_105_002],
 ];
 
+/// The next moment in Trading: the first trade leaves.
+const UPCOMING: [u32; 3] = [0, 0x76, 3_380_001];
+
 /// Any call on a book that is not set up.
-const RUBBISH: [u64; 11] = [1, 0, 0, 0, 0, 0, 0, 0, 0, 0, 0];
+const RUBBISH: [u32; 11] = [1, 0, 0, 0, 0, 0, 0, 0, 0, 0, 0];
 
-// ---------------------------------------------------------------- the memory that is lent
+// ---------------------------------------------------------------- the memory that the library gets
 
-/// With an odd guard the records stand at an address that is aligned to no more than they ask for.
+/// With an odd guard length the records are at an address with no more alignment than they need.
 const GUARD: usize = 33;
 const PATTERN: u32 = 0xa5a5_a5a5;
 const STOCKS: usize = 2;
@@ -123,13 +148,13 @@ impl Memory {
 }
 
 /// Where an answer is written.
-type Room = [u64; 32];
+type Room = [u32; 64];
 
-/// Calls a function with an answer's place, where one stands in brackets, then with the three arrays and the other arguments.
+/// Calls a function with the address for its answer, if one is given in brackets, the three arrays, and the other arguments.
 macro_rules! lend {
     ($function:path, [$($room:ident)?], $memory:expr $(, $argument:expr)*) => {{
         let Memory { records, times, prices } = $memory;
-        // SAFETY: each array lies between its guards, in a vector of its own that is borrowed by this call alone.
+        // SAFETY: each array lies between its guards, in its own vector, which only this call borrows.
         unsafe {
             $function(
                 $($room,)?
@@ -142,7 +167,7 @@ macro_rules! lend {
     }};
 }
 
-/// On x86-64 a struct of more than 16 bytes is written to where a hidden first argument points: here it is not hidden.
+/// On x86-64 a struct of more than 16 bytes is returned through a hidden first argument, a pointer: these declarations name it.
 #[cfg(target_arch = "x86_64")]
 #[allow(clippy::too_many_arguments)]
 mod written {
@@ -198,35 +223,29 @@ macro_rules! answer_into {
 macro_rules! answer_into {
     ($function:ident, $room:ident, $memory:expr $(, $argument:expr)*) => {{
         let answer = lend!(raw::$function, [], $memory $(, $argument)*);
-        // SAFETY: the room is aligned to 8, and larger than any answer.
+        // SAFETY: the room has the alignment of an answer, and is larger than any answer.
         unsafe { std::ptr::write(std::ptr::addr_of_mut!(*$room).cast(), answer) }
     }};
 }
 
 // ---------------------------------------------------------------- checks
 
-fn number(bytes: &[u8], size: usize) -> u64 {
-    match size {
-        4 => u32::from_ne_bytes(bytes[..4].try_into().unwrap()).into(),
-        _ => u64::from_ne_bytes(bytes[..8].try_into().unwrap()),
-    }
+fn number(bytes: &[u8]) -> u32 {
+    u32::from_ne_bytes(bytes[..4].try_into().unwrap())
 }
 
 fn bytes_of(words: &[u32]) -> Vec<u8> {
     words.iter().flat_map(|word| word.to_ne_bytes()).collect()
 }
 
-/// Each field has its value in a struct that the library wrote; what is wrong is said.
-fn check_fields(fields: &[Field], values: &[u64], written: &[u8]) -> Vec<String> {
+/// Checks that each field has its value in a struct that the library wrote.
+fn check_fields(fields: &[Field], values: &[u32], written: &[u8]) -> Vec<String> {
     let mut faults = Vec::new();
     for (field, &value) in fields.iter().zip(values) {
-        let Field { name, offset, size } = field;
-        if number(&written[*offset..], *size) != value {
-            let has = |at: &usize| number(&written[*at..], *size) == value;
-            let places: Vec<usize> = (0..=written.len() - *size)
-                .step_by(*size)
-                .filter(has)
-                .collect();
+        let Field { name, offset, .. } = field;
+        if number(&written[*offset..]) != value {
+            let has = |at: &usize| number(&written[*at..]) == value;
+            let places: Vec<usize> = (0..written.len()).step_by(4).filter(has).collect();
             faults.push(format!(
                 "{name} is at byte {offset} of raw, and the library has {value} at {places:?}"
             ));
@@ -235,15 +254,10 @@ fn check_fields(fields: &[Field], values: &[u64], written: &[u8]) -> Vec<String>
     faults
 }
 
-/// The fields leave no byte of the struct out but so many of padding, and some row of values tells any two fields apart.
-fn check_table(fields: &[Field], rows: &[&[u64]], size: usize, padding: usize) {
+/// Checks that the fields cover every byte of the struct, and that any two fields differ in some row of values.
+fn check_table(fields: &[Field], rows: &[&[u32]], size: usize) {
     let sum: usize = fields.iter().map(|field| field.size).sum();
-    assert_eq!(
-        sum + padding,
-        size,
-        "bytes of the fields from {} on",
-        fields[0].name
-    );
+    assert_eq!(sum, size, "bytes of the fields from {} on", fields[0].name);
     for (i, field) in fields.iter().enumerate() {
         for (j, other) in fields[..i].iter().enumerate() {
             let apart = rows.iter().any(|row| row[i] != row[j]);
@@ -252,18 +266,18 @@ fn check_table(fields: &[Field], rows: &[&[u64]], size: usize, padding: usize) {
     }
 }
 
-/// Makes a call over two fillings of the room: what is as it was filled both times was not written.
+/// Makes the call twice, with the room filled differently: a byte that keeps its filling both times was not written.
 fn check_call(
     memory: &mut Memory,
     fields: &[Field],
-    values: &[u64],
+    values: &[u32],
     size: usize,
     call: fn(&mut Memory, &mut Room),
 ) {
     let before = memory.clone();
     let mut end = 0;
     for fill in [0xa5, 0x5a] {
-        let mut room = [u64::from_ne_bytes([fill; 8]); 32];
+        let mut room = [u32::from_ne_bytes([fill; 4]); 64];
         *memory = before.clone();
         call(memory, &mut room);
         let bytes: Vec<u8> = room.iter().flat_map(|word| word.to_ne_bytes()).collect();
@@ -283,7 +297,7 @@ fn check_call(
     );
 }
 
-/// Guards are untouched and all between them is written.
+/// Checks that the guards are unchanged and that everything between them was written.
 fn check_guards(memory: &Memory) {
     for (name, array) in memory.arrays() {
         for (i, &word) in array.iter().enumerate() {
@@ -313,6 +327,13 @@ fn trade_outside(memory: &mut Memory, room: &mut Room) {
 
 fn settle_nothing(memory: &mut Memory, room: &mut Room) {
     answer_into!(sumpheron_settle, room, memory, 1, 3_080_200)
+}
+
+/// The answer is returned in registers, and copied into the room here.
+fn next(memory: &mut Memory, room: &mut Room) {
+    let answer = lend!(raw::sumpheron_next, [], memory, 1);
+    // SAFETY: the room has the alignment of an answer, and is larger than any answer.
+    unsafe { std::ptr::write(std::ptr::addr_of_mut!(*room).cast(), answer) }
 }
 
 fn settle_pause(memory: &mut Memory, room: &mut Room) {
@@ -345,7 +366,7 @@ fn quote(memory: &mut Memory, time: u32, who: u32) {
     ));
 }
 
-/// Stock 1 opens, trades, and is quoted by all but the last participant.
+/// Stock 1 opens and trades, and all participants but the last quote it.
 fn play_trading(memory: &mut Memory) {
     expect_done(lend!(
         raw::sumpheron_opening,
@@ -382,7 +403,7 @@ fn check_records(memory: &Memory) {
     }
 }
 
-/// Stock 1 has its trades at the front of its places, and all other places are 0.
+/// Checks that stock 1 has its trades at the front of its places, and that all other places are 0.
 fn check_places(memory: &Memory) {
     for (array, first) in [(&memory.times, 3_080_001), (&memory.prices, 100_001)] {
         let mut wanted = vec![0; STOCKS * PLACES];
@@ -395,20 +416,24 @@ fn check_places(memory: &Memory) {
 
 #[test]
 fn fields_are_where_the_library_writes_them() {
-    let (answer, notice) = (answer(), notice());
+    let (answer, notice, upcoming) = (answer(), notice(), upcoming());
     let (answer_size, notice_size) = (size_of::<raw::Answer>(), size_of::<raw::Notice>());
-    check_table(&record(), &[&records()[1]], RECORD, 0);
-    check_table(&answer, &[&ANSWERS[0], &ANSWERS[1]], answer_size, 4);
-    check_table(&notice, &[&NOTICES[0], &NOTICES[1]], notice_size, 8);
+    let upcoming_size = size_of::<raw::Upcoming>();
+    check_table(&record(), &[&records()[1]], RECORD);
+    check_table(&answer, &[&ANSWERS[0], &ANSWERS[1]], answer_size);
+    check_table(&notice, &[&NOTICES[0], &NOTICES[1]], notice_size);
+    check_table(&upcoming, &[&UPCOMING], upcoming_size);
 
-    // The sizes come first: a call that writes more than `raw` has would spoil the stack.
+    // The sizes are compared first: a call that writes a larger struct than `raw` declares would overrun the stack.
     let mut memory = Memory::new();
     check_call(&mut memory, &answer, &RUBBISH, answer_size, read);
     check_call(&mut memory, &notice, &RUBBISH, notice_size, settle_nothing);
+    check_call(&mut memory, &upcoming, &RUBBISH, upcoming_size, next);
 
     set_up(&mut memory);
     play_trading(&mut memory);
     check_call(&mut memory, &answer, &ANSWERS[0], answer_size, read);
+    check_call(&mut memory, &upcoming, &UPCOMING, upcoming_size, next);
     check_call(
         &mut memory,
         &notice,

@@ -1,8 +1,8 @@
 -- The laws of specs/Laws.antt; those in words are proved in Words.antt. Those that callers cite by themselves are public.
 -- Assumes nothing.
-use Prim.Native.Nat.{ℕ, _+_, _-_, _*_, _/_, _^_, _≤_, _<_, min}
+use Prim.Native.Nat.{ℕ, _+_, _-_, _*_, _/_, _≤_, _<_, min}
 use mathlib.Core.List.{List, [], _∷_, foldl}
-use mathlib.Core.Logic.{_⊎_, inl, inr}
+use mathlib.Core.Logic.{_⊎_, inl, inr, ⊎-elim}
 use mathlib.Core.Path.{_≡_, refl, ap}
 use native.Mathlib.Nat.{mul-le-mul, mul-le-mul-right, le-of-mul-le-mul-right, mul-left-comm, mul-suc, add-mul, div-mul-le-self, le-div-iff-mul-le, div-lt-iff-lt-mul, div-zero, le-trans}
 use native.Mathlib.Decide.{ℕ-discrete}
@@ -12,7 +12,7 @@ use lib.Dec.{ltb, eqb}
 use lib.ListN.{length}
 use Rattle.forms.proofs.Choice.{if-true, if-false, if-arms}
 use Rattle.forms.proofs.Promises.{agree}
-use Rattle.band.specs.Band.{small, percentOf, factorOf, spreadOf, cent, lowerOf, upperOf, bandsOf, meanOf, movesOf}
+use Rattle.band.specs.Band.{small, percentOf, factorOf, spreadOf, cent, lowerOf, upperOf, minusOf, bandsOf, meanOf, movesOf}
 use Rattle.band.specs.Laws.{Within, Around, Ordered, UpperFits, MeanBetween, Laws}
 use Rattle.band.proofs.Words.{cent-nearest, percent-is, factor-is, spread-is, cent-is, bands-are, mean-is, moves-is, bands-scaled, moves-scaled}
 use Rattle.band.proofs.Examples.{examples}
@@ -73,14 +73,14 @@ spread-least n d p k h i (inr j) =
 
 -- A is at most 120 percent, or 6 times 15 cents
 spread-most : (n d percent k : ℕ) → k ≤ 6 → (percent ≡ small) ⊎ ((5 ≤ percent) × (percent ≤ 20))
-    → spreadOf n d percent k ≤ 120 * n + 900_000 * d
+    → (spreadOf n d percent k ≤ 120 * n) ⊎ (spreadOf n d percent k ≤ 900_000 * d)
 unfolding spreadOf
 spread-most n d p k i (inl e) =
     let m : k * min (150_000 * d) (75 * n) ≤ 6 * min (150_000 * d) (75 * n) = mul-le-mul-right _ i in
-    rw (eq-eqb p small e, if-true) (omega arith)
+    rw (eq-eqb p small e, if-true) (inr (omega arith))
 spread-most n d p k i (inr j) =
     let m : k * p * n ≤ 6 * 20 * n = mul-le-mul-right n (mul-le-mul i (j .1)) in
-    rw (ne-eqb p small (λ e. omega arith), if-false) (omega arith)
+    rw (ne-eqb p small (λ e. omega arith), if-false) (inl (omega arith))
 
 -- the upper band is at least the rounded number
 upper-above : (n d percent k : ℕ) → cent (100 * n + spreadOf n d percent k) d ≤ upperOf n d percent k
@@ -113,11 +113,13 @@ upper-fits n d tier close leverage time end h i =
     let k = factorOf leverage time end in
     let a = spreadOf n d p k in
     let u = cent (100 * n + a) d in
-    let near = spread-most n d p k (factor-most leverage time end) (percent-range tier close) in
+    let most : 100 * n + a ≤ 219_999_999_780 * d =
+    ⊎-elim (λ l. omega arith) (λ l. omega arith) (spread-most n d p k (factor-most leverage time end) (percent-range tier close)) in
     let below = nearest (100 * n + a) d h in
-    let by-d : u * d ≤ 2_200_009_100 * d = omega arith in
-    let small-u : u ≤ 2_200_009_100 = le-of-mul-le-mul-right by-d h in
-    if-arms (λ x. x < 2 ^ 32) (eqb u 0) (λ e. omega arith) (λ e. omega arith)
+    let by-d : u * d ≤ 2_200_000_048 * d = omega arith in
+    let small-u : u ≤ 2_200_000_048 = le-of-mul-le-mul-right by-d h in
+    let whole = cent-nearest (100 * n + a) d h .1 in
+    if-arms (λ x. x ≤ 2_200_000_000) (eqb u 0) (λ e. omega arith) (λ e. omega arith)
 
 -- ------------------------------------------------------------------ the mean
 
@@ -175,6 +177,7 @@ laws = record {
   examples = examples;
   percent-determined = λ tier close. agree (percentOf tier close);
   factor-determined = λ leverage time end. agree (factorOf leverage time end);
+  minus-determined = λ x y. agree (minusOf x y);
   bands-determined = λ reference percent k. agree (bandsOf reference 1 percent k);
   mean-determined = λ sum count. agree (meanOf sum count);
   moves-determined = λ mean reference. agree (movesOf mean 1 reference 1);

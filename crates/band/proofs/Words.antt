@@ -14,7 +14,7 @@ use Rattle.forms.proofs.Choice.{if-true, if-false, if-arms}
 use Rattle.forms.proofs.Decides.{Decides, either-way, is-true, exactly-where, is-false, by-le, by-lt, words, choice, take, skip, exactly}
 use Rattle.band.specs.Band.{small, percentOf, factorOf, spreadOf, cent, lowerOf, upperOf, bandsOf, meanOf, distance, movesOf}
 use Rattle.band.specs.Words.{percents, factors, spreads, NearestCent, IsLower, IsUpper, AreBands, IsMean, OnePercent}
-use Rattle.band.specs.declared.Limits.{Limits}
+use Rattle.band.specs.declared.Bands.{Bands}
 use Rattle.band.specs.Laws.{PercentIs, FactorIs, SpreadIs, CentIs, BandsAre, MeanIs, MovesIs, BandsScaled, MovesScaled}
 
 -- ------------------------------------------------------------------ percent and k
@@ -115,7 +115,7 @@ bands-given : (n d percent k : ℕ) → 1 ≤ d → AreBands n d percent k (lowe
 unfolding lowerOf upperOf
 bands-given n d p k h = (spreadOf n d p k, spread-given n d p k, lower-given n d _ h, upper-given n d _ h)
 
-one-bands : (n d percent k : ℕ) (l : Limits) → 1 ≤ d → AreBands n d percent k (l .lower) (l .upper) → bandsOf n d percent k ≡ l
+one-bands : (n d percent k : ℕ) (l : Bands) → 1 ≤ d → AreBands n d percent k (l .lower) (l .upper) → bandsOf n d percent k ≡ l
 unfolding bandsOf lowerOf upperOf
 one-bands n d p k l h (a, g, down, up) =
     let e = spread-is n d p k a .1 g in

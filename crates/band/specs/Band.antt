@@ -1,59 +1,64 @@
--- Document 01, "Band arithmetic", and of "States" the one percent test. A price is whole ten-thousandths of a dollar.
--- A reference is a fraction n / d, and so is a mean; today both are whole prices, with d = 1.
+-- The band arithmetic (document 01, "Band arithmetic") and the one percent test ("States"). A price is whole ten-thousandths of a dollar. A
+-- reference is a fraction n / d, and so is a mean; today both are whole prices, with d = 1.
 -- Assumes nothing.
 use Prim.Native.Nat.{ℕ, _+_, _-_, _*_, _/_, min}
 use mathlib.Core.Bool.{Bool}
 use mathlib.Core.List.{[], _∷_}
 use lib.Dec.{ltb, leb, eqb}
 use Rattle.forms.specs.Choice.{if_then_else_, anyOf}
-use Rattle.band.specs.declared.Limits.{Limits}
+use Rattle.band.specs.declared.Bands.{Bands}
 
--- the small rule: it stands where a percent would
+-- the value that means the small rule, in the place of a percent
 abbrev pub small : ℕ
 small = 0
 
--- the percent that the previous close fixes for the day; a tier that there is not counts as tier 2
+-- the percent that the previous close fixes for the day; an unknown tier counts as tier 2
 unfoldable pub percentOf : ℕ → ℕ → ℕ
 percentOf tier close =
     if ltb 30_000 close then (if eqb tier 1 then 5 else 10) else
     if leb 7_500 close then 20 else
     small
 
--- factor k: the leverage, doubled at the session's start and end; a leverage that there is not counts as 0
+-- factor k: the leverage, doubled at the session's start and end; a leverage over 3 counts as 0
 unfoldable pub factorOf : ℕ → ℕ → ℕ → ℕ
 factorOf leverage time end =
     if ltb 3 leverage then 0 else
     if anyOf (ltb time 900_000 ∷ leb (end - 1_500_000) time ∷ []) then 2 * leverage else
     leverage
 
--- A of a reference n / d, as a number over d, in hundredths of a price's unit; by the small rule 15 cents at most
+-- A, the distance of the bands from a reference n / d, as a numerator over d in hundredths of a price's unit; by the small rule at most k times
+-- 15 cents
 unfoldable pub spreadOf : ℕ → ℕ → ℕ → ℕ → ℕ
 spreadOf n d percent k =
     if eqb percent small then k * min (150_000 * d) (75 * n) else
     k * percent * n
 
--- x / d, which counts hundredths of a price's unit, as a price in whole cents; a half goes up
+-- x / d hundredths of a price's unit, rounded to whole cents, a half up
 unfoldable pub cent : ℕ → ℕ → ℕ
 cent x d = (x + 5_000 * d) / (10_000 * d) * 100
 
--- the reference less A; a difference of natural numbers is at least 0
+-- a difference of natural numbers, which is at least 0
+abbrev pub minusOf : ℕ → ℕ → ℕ
+minusOf x y = x - y
+
+-- the reference less A
 unfoldable pub lowerOf : ℕ → ℕ → ℕ → ℕ → ℕ
 lowerOf n d percent k = cent (100 * n - spreadOf n d percent k) d
 
--- the reference plus A, and a cent where that comes to nothing
+-- the reference plus A, or one cent where that rounds to 0
 unfoldable pub upperOf : ℕ → ℕ → ℕ → ℕ → ℕ
 upperOf n d percent k =
     let u = cent (100 * n + spreadOf n d percent k) d in
     if eqb u 0 then 100 else u
 
-unfoldable pub bandsOf : ℕ → ℕ → ℕ → ℕ → Limits
+unfoldable pub bandsOf : ℕ → ℕ → ℕ → ℕ → Bands
 bandsOf n d percent k = record { lower = lowerOf n d percent k; upper = upperOf n d percent k }
 
--- the mean of `count` prices with that sum, dropping the rest; of no price it is 0, since x / 0 is 0
+-- the mean of `count` prices with that sum, a half rounded up; without a price it is 0, since x / 0 is 0
 unfoldable pub meanOf : ℕ → ℕ → ℕ
 meanOf sum count = (2 * sum + count) / (2 * count)
 
--- the distance of two numbers, of whose differences one is 0
+-- the distance of two numbers: one of the two differences is 0
 unfoldable pub distance : ℕ → ℕ → ℕ
 distance a b = (a - b) + (b - a)
 

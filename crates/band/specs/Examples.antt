@@ -1,5 +1,5 @@
--- Examples that were worked out by hand: of document 01's "Checked by hand" the rows that band arithmetic decides alone, and the
--- edges of k and of the one percent test.
+-- Examples worked out by hand: the rows of document 01, "Checked by hand", that need the band arithmetic alone, and the edges of k and of the one
+-- percent test.
 -- Assumes nothing.
 use Prim.Native.Nat.{ℕ, _+_}
 use mathlib.Core.Bool.{Bool, not}
@@ -8,7 +8,7 @@ use lib.Dec.{eqb}
 use Rattle.forms.specs.Choice.{allOf}
 use Rattle.band.specs.Band.{small, percentOf, factorOf, lowerOf, upperOf, meanOf, movesOf}
 
--- what goes in, and last what must come out
+-- the inputs of a function, and last the expected result
 pub data Row : Type 0 where
   percent : (tier close is : ℕ) → Row
   factor : (leverage time end is : ℕ) → Row
@@ -46,7 +46,7 @@ byHand =
     percent 1 30_001 5 ∷
     percent 2 30_000 20 ∷
     percent 2 30_001 10 ∷
-    -- B11, a half that goes up, less than a half that goes, and no price
+    -- B11; a half is rounded up, less than a half is dropped, and no price has mean 0
     mean (1 + 2) 2 2 ∷
     mean 10 4 3 ∷
     mean 9 4 2 ∷
@@ -56,14 +56,14 @@ byHand =
     factor 1 900_000 23_400_000 1 ∷
     factor 3 21_899_999 23_400_000 3 ∷
     factor 3 21_900_000 23_400_000 6 ∷
-    -- a leverage that there is not
+    -- an unknown leverage
     factor 4 0 23_400_000 0 ∷
     -- the test, from above and from below: one percent is enough
     stays 100_999 1 100_000 1 ∷
     changes 101_000 1 100_000 1 ∷
     stays 99_001 1 100_000 1 ∷
     changes 99_000 1 100_000 1 ∷
-    -- of fractions: a mean of 100,999.5, and a reference of 100,000.5
+    -- the test of fractions: a mean of 100,999.5, and a reference of 100,000.5
     stays 201_999 2 100_000 1 ∷
     changes 202_000 2 100_000 1 ∷
     stays 101_000 1 200_001 2 ∷
@@ -72,7 +72,7 @@ byHand =
     bands 201_999 2 10 1 90_900 111_100 ∷
     bands 2_001 2 small 1 300 1_800 ∷
     bands 6_001 2 small 1 1_500 4_500 ∷
-    -- bands whose ends are halves of a cent, before they go up
+    -- bands that are half a cent before they are rounded up
     bands 2_050 1 small 1 600 3_600 ∷
     bands 2_050 1 small 2 0 5_100 ∷
     []

@@ -1,7 +1,7 @@
--- What the band arithmetic obeys. Each field is a theorem: `laws` of proofs/Laws.antt proves the record. `A ↔ B` is "A exactly where B":
--- a law of that form fixes a function's result by the words of Words.antt.
+-- What the band arithmetic obeys. Each field is a theorem: `laws` of proofs/Laws.antt proves the record. `A ↔ B` is "A exactly where B": a law of
+-- that form determines a function's result by the words of Words.antt.
 -- Assumes nothing.
-use Prim.Native.Nat.{ℕ, _+_, _*_, _^_, _≤_, _<_}
+use Prim.Native.Nat.{ℕ, _+_, _*_, _≤_}
 use mathlib.Core.Bool.{true}
 use mathlib.Core.List.{List, [], _∷_, foldl}
 use mathlib.Core.Logic.{_↔_}
@@ -10,10 +10,10 @@ use lib.ListN.{length}
 use Rattle.forms.specs.Promises.{Determines}
 use Rattle.forms.specs.Tables.{every}
 use Rattle.forms.specs.Words.{Gives}
-use Rattle.band.specs.Band.{percentOf, factorOf, spreadOf, lowerOf, upperOf, bandsOf, cent, meanOf, movesOf}
+use Rattle.band.specs.Band.{percentOf, factorOf, spreadOf, lowerOf, upperOf, minusOf, bandsOf, cent, meanOf, movesOf}
 use Rattle.band.specs.Words.{percents, factors, spreads, NearestCent, AreBands, IsMean, OnePercent}
 use Rattle.band.specs.Examples.{right, byHand}
-use Rattle.band.specs.declared.Limits.{Limits}
+use Rattle.band.specs.declared.Bands.{Bands}
 
 -- every price of the list is from `low` to `high`
 abbrev pub Within : ℕ → ℕ → List ℕ → Type 0
@@ -25,7 +25,7 @@ meanOfAll prices = meanOf (foldl _+_ 0 prices) (length prices)
 
 -- ------------------------------------------------------------------ what Band.antt computes, in words
 
--- the percent of tiers 1 and 2, of every close: so it is the same within a range of closes
+-- the percent of tiers 1 and 2, for every close
 abbrev pub PercentIs : Type 0
 PercentIs = (tier close percent : ℕ) → 1 ≤ tier → tier ≤ 2 → (percentOf tier close ≡ percent) ↔ Gives (percents tier close) percent
 
@@ -43,7 +43,7 @@ CentIs = (x d price : ℕ) → 1 ≤ d → (cent x d ≡ price) ↔ NearestCent 
 
 -- both bands of every reference, percent and k
 abbrev pub BandsAre : Type 0
-BandsAre = (n d percent k : ℕ) (l : Limits) → 1 ≤ d → (bandsOf n d percent k ≡ l) ↔ AreBands n d percent k (l .lower) (l .upper)
+BandsAre = (n d percent k : ℕ) (l : Bands) → 1 ≤ d → (bandsOf n d percent k ≡ l) ↔ AreBands n d percent k (l .lower) (l .upper)
 
 -- the mean of one price or more
 abbrev pub MeanIs : Type 0
@@ -55,39 +55,39 @@ MovesIs = (m c n d : ℕ) → (movesOf m c n d ≡ true) ↔ OnePercent m c n d
 
 -- ------------------------------------------------------------------ another fraction for the same number
 
--- the bands depend on the number n / d alone: 2n / 2d has the same
+-- the bands depend only on the number n / d: 2n / 2d has the same bands
 abbrev pub BandsScaled : Type 0
 BandsScaled = (j n d percent k : ℕ) → 1 ≤ j → bandsOf (j * n) (j * d) percent k ≡ bandsOf n d percent k
 
--- and the test on the numbers m / c and n / d
+-- the one percent test depends only on the numbers m / c and n / d
 abbrev pub MovesScaled : Type 0
 MovesScaled = (i j m c n d : ℕ) → 1 ≤ i → 1 ≤ j → movesOf (i * m) (i * c) (j * n) (j * d) ≡ movesOf m c n d
 
 -- ------------------------------------------------------------------ bands, of a reference n / d
 
--- from 1,000 on, lower <= reference <= upper: of every close, tier and leverage, at every time
+-- a reference of 1,000 or more lies between its bands, for every close, tier and leverage, at every time
 abbrev pub Around : Type 0
 Around = (n d tier close leverage time end : ℕ) → 1 ≤ d → 1_000 * d ≤ n → 1 ≤ leverage → leverage ≤ 3
     → (lowerOf n d (percentOf tier close) (factorOf leverage time end) * d ≤ n)
     × (n ≤ upperOf n d (percentOf tier close) (factorOf leverage time end) * d)
 
--- lower <= upper, of every reference, percent and k
+-- lower <= upper, for every reference, percent and k
 abbrev pub Ordered : Type 0
 Ordered = (n d percent k : ℕ) → 1 ≤ d → lowerOf n d percent k ≤ upperOf n d percent k
 
--- up to the largest price the upper band fits 32 bits
+-- for every reference up to the largest price the upper band is at most 2,200,000,000, which fits 32 bits but not 31
 abbrev pub UpperFits : Type 0
 UpperFits = (n d tier close leverage time end : ℕ) → 1 ≤ d → n ≤ 999_999_999 * d
-    → upperOf n d (percentOf tier close) (factorOf leverage time end) < 2 ^ 32
+    → upperOf n d (percentOf tier close) (factorOf leverage time end) ≤ 2_200_000_000
 
 -- ------------------------------------------------------------------ the mean
 
--- it lies between the least and the greatest of the prices, as between any bounds of theirs
+-- the mean lies within any bounds of the prices, so between the least and the greatest
 abbrev pub MeanBetween : Type 0
 MeanBetween = (low high price : ℕ) (prices : List ℕ) → Within low high (price ∷ prices)
     → (low ≤ meanOfAll (price ∷ prices)) × (meanOfAll (price ∷ prices) ≤ high)
 
--- so the mean of prices in range is in range
+-- the mean of prices in range is in range
 abbrev pub MeanInRange : Type 0
 MeanInRange = (price : ℕ) (prices : List ℕ) → Within 1 999_999_999 (price ∷ prices)
     → (1 ≤ meanOfAll (price ∷ prices)) × (meanOfAll (price ∷ prices) ≤ 999_999_999)
@@ -109,11 +109,12 @@ pub record Laws : Type 0 where
   pub upper-fits : UpperFits
   pub mean-between : MeanBetween
   pub mean-in-range : MeanInRange
-  -- what was worked out by hand is what the definitions give
+  -- the definitions give the results that were worked out by hand
   pub examples : every right byHand ≡ true
   -- two results that a promise of src/lib.rt allows agree
   pub percent-determined : (tier close : ℕ) → Determines (λ r. r ≡ percentOf tier close)
   pub factor-determined : (leverage time end : ℕ) → Determines (λ r. r ≡ factorOf leverage time end)
+  pub minus-determined : (x y : ℕ) → Determines (λ r. r ≡ minusOf x y)
   pub bands-determined : (reference percent k : ℕ) → Determines (λ r. r ≡ bandsOf reference 1 percent k)
   pub mean-determined : (sum count : ℕ) → Determines (λ r. r ≡ meanOf sum count)
   pub moves-determined : (mean reference : ℕ) → Determines (λ r. r ≡ movesOf mean 1 reference 1)

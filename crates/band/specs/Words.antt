@@ -1,6 +1,6 @@
--- Document 01's "Band arithmetic" in words, and of "States" the one percent test. Each name is a proposition over numbers, or a table of
--- such: no test and no function of Band.antt is asked, only the name `small`. The laws `percent-is`, `factor-is`, `spread-is`, `cent-is`,
--- `bands-are`, `mean-is` and `moves-is` say that Band.antt computes this.
+-- The band arithmetic in words (document 01, "Band arithmetic"), and the one percent test ("States"). Each name is a proposition over numbers, or
+-- a table of such; from Band.antt they use only the name `small`. The laws `percent-is`, `factor-is`, `spread-is`, `cent-is`, `bands-are`,
+-- `mean-is` and `moves-is` say that Band.antt computes this.
 --
 -- To read it: `A and B`, `A or B`, `¬ A` are "and", "or", "not"; `a ≡ b` is "equals"; `(x : ℕ) × A` is "there is a number x with A"; `n for A`
 -- is a row of a table: the number n, given where A holds and no row above does. A price is whole ten-thousandths of a dollar, and a
@@ -15,7 +15,7 @@ use Rattle.band.specs.Band.{small}
 
 -- ------------------------------------------------------------------ percent and k
 
--- over 30,000, 5 for tier 1 and 10 for tier 2; 7,500 to 30,000, 20; below 7,500, the small rule
+-- the percent by the close: above 30,000 it is 5 in tier 1 and 10 in tier 2, from 7,500 on it is 20, and under that the small rule holds
 abbrev pub percents : (tier close : ℕ) → List Number
 percents tier close =
     5 for (30_000 < close and tier ≡ 1) ∷
@@ -24,7 +24,7 @@ percents tier close =
     small for (close < 7_500) ∷
     []
 
--- k is the leverage, doubled when time < 900,000 or time >= E - 1,500,000
+-- k is the leverage, and twice as much before 900,000 and from E - 1,500,000 on
 abbrev pub factors : (leverage time end : ℕ) → List Number
 factors leverage time end =
     (2 * leverage) for (time < 900_000 or end - 1_500_000 ≤ time) ∷
@@ -33,7 +33,7 @@ factors leverage time end =
 
 -- ------------------------------------------------------------------ the bands of a reference n / d
 
--- A, over d and in hundredths of a price's unit: k x percent x n; by the small rule k times the lesser of 15 cents and 75 percent
+-- A, as a numerator over d in hundredths of a price's unit: k x percent x n; by the small rule k times the lesser of 15 cents and 75 percent
 abbrev pub spreads : (n d percent k : ℕ) → List Number
 spreads n d percent k =
     (k * percent * n) for (¬ (percent ≡ small)) ∷
@@ -60,7 +60,7 @@ AreBands n d percent k lower upper = (a : ℕ) × Gives (spreads n d percent k) 
 
 -- ------------------------------------------------------------------ the mean, and one percent
 
--- the whole number nearest to sum / count: at most a half above it and less than a half below, so a half goes up; of no price there is none
+-- the whole number nearest to sum / count: at most a half above it and less than a half below, so a half goes up; without a price there is none
 abbrev pub IsMean : (sum count mean : ℕ) → Type 0
 IsMean sum count mean = 2 * mean * count ≤ 2 * sum + count and 2 * sum < 2 * mean * count + count
 

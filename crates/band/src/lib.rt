@@ -1,15 +1,21 @@
-// Band arithmetic: percent, factor k, the bands, the mean and the one percent test. No public
-// function has a `requires`: a definition of specs/Band.antt gives each its result for every input.
+// Band arithmetic: percent, factor k, the bands, the mean and the one percent test. No public function has a
+// `requires`: a definition of specs/Band.antt gives the result for every input.
 ghost use mathlib.Core.Path.{_≡_};
-ghost use Prim.Native.Nat.{_-_, _<_, _^_};
-ghost use Rattle.band.specs.Band.{percentOf, factorOf, spreadOf, cent, bandsOf, meanOf, movesOf};
+ghost use Prim.Native.Nat.{_<_, _^_};
+ghost use Rattle.band.specs.Band.{percentOf, factorOf, spreadOf, cent, minusOf, bandsOf, meanOf, movesOf};
 
-// The percent that stands for the small rule.
+// The percent value that means the small rule.
 const SMALL: u8 = 0;
 
-// A lower and an upper band: `Bands` would differ from `bands` in a letter's case alone.
-#[repr(C)]
-pub struct Limits {
+// k is doubled before this time.
+pub const DOUBLED_UNTIL: u32 = 900_000;
+
+// k is also doubled from this long before the session's end on.
+pub const DOUBLED_BEFORE_END: u64 = 1_500_000;
+
+// A lower and an upper band. They have 64 bits: the upper band of a reference that was not validated yet can
+// overflow 32.
+pub struct Bands {
     pub lower: u64,
     pub upper: u64,
 }
@@ -30,7 +36,7 @@ pub fn percent(tier: u32, close: u32) -> u8
     SMALL
 }
 
-// The leverage, doubled before 900,000 and from `end` - 1,500,000 on; 0 for a leverage over 3.
+// The leverage, doubled at both ends of the session; 0 for a leverage over 3.
 pub fn factor(leverage: u32, time: u32, end: u32) -> u8
     ensures { λ r. ⌜ r ≡ factorOf leverage time end ⌝ }
 {
@@ -38,10 +44,10 @@ pub fn factor(leverage: u32, time: u32, end: u32) -> u8
         return 0;
     }
     let k = leverage as u8;
-    if time < 900_000 {
+    if time < DOUBLED_UNTIL {
         return 2 * k;
     }
-    if (end as u64) <= (time as u64) + 1_500_000 {
+    if (end as u64) <= (time as u64) + DOUBLED_BEFORE_END {
         return 2 * k;
     }
     k
@@ -63,7 +69,7 @@ fn spread(reference: u32, percent: u8, k: u8) -> u64
     f * (percent as u64) * r
 }
 
-// The nearest cent, a half going up.
+// Rounds to the nearest cent, a half up.
 fn to_cent(x: u64) -> u64
     requires { ⌜ x < 2 ^ 49 ⌝ }
     ensures { λ r. ⌜ r ≡ cent x 1 ⌝ }
@@ -71,9 +77,9 @@ fn to_cent(x: u64) -> u64
     (x + 5_000) / 10_000 * 100
 }
 
-// The difference, at least 0.
-fn minus(x: u64, y: u64) -> u64
-    ensures { λ r. ⌜ r ≡ x - y ⌝ }
+// The difference, or 0 where y is the greater.
+pub fn minus(x: u64, y: u64) -> u64
+    ensures { λ r. ⌜ r ≡ minusOf x y ⌝ }
 {
     if x < y {
         return 0;
@@ -82,7 +88,7 @@ fn minus(x: u64, y: u64) -> u64
 }
 
 // The lower and the upper band of a whole reference, each rounded once.
-pub fn bands(reference: u32, percent: u8, k: u8) -> Limits
+pub fn bands_of(reference: u32, percent: u8, k: u8) -> Bands
     ensures { λ b. ⌜ b ≡ bandsOf reference 1 percent k ⌝ }
 {
     let a = spread(reference, percent, k);
@@ -90,13 +96,13 @@ pub fn bands(reference: u32, percent: u8, k: u8) -> Limits
     let lower = to_cent(minus(r, a));
     let upper = to_cent(r + a);
     if upper == 0 {
-        return Limits { lower, upper: 100 };
+        return Bands { lower, upper: 100 };
     }
-    Limits { lower, upper }
+    Bands { lower, upper }
 }
 
-// The mean of `count` prices, a half rounded up; 0 where there is none. No sum wraps: the quotient
-// comes first, then the rest decides.
+// The mean of `count` prices, a half rounded up; 0 where there is none. It divides first and rounds by the
+// remainder, so that nothing overflows.
 pub fn mean(sum: u64, count: u32) -> u64
     ensures { λ r. ⌜ r ≡ meanOf sum count ⌝ }
 {
@@ -112,7 +118,7 @@ pub fn mean(sum: u64, count: u32) -> u64
     q
 }
 
-// Whether a whole mean is one percent of a whole reference away from it, or more.
+// Whether a mean differs from the reference by one percent of the reference or more; both are whole prices.
 pub fn moves(mean: u32, reference: u32) -> bool
     ensures { λ r. ⌜ r ≡ movesOf mean 1 reference 1 ⌝ }
 {

@@ -13,7 +13,7 @@ use Rattle.forms.specs.Checks.{first}
 use Rattle.forms.proofs.Choice.{if-true, if-false}
 use Rattle.rules.specs.Stock.{Whole}
 use Rattle.rules.specs.Machine.{On, Call, Calls, tell, settle, stock, stepIn, run}
-use Rattle.rules.specs.Book.{machine, blank, book, Accepted, now, bookTells, bookSettles, bookReads}
+use Rattle.rules.specs.Book.{machine, blank, book, Accepted, now, bookTells, bookSettles, bookReads, bookNext}
 use Rattle.rules.specs.Numbers.{answer, callChecks, tells, reads, fresh, tellAnswer, settleAnswer, readAnswer}
 use Rattle.rules.specs.Words.{Rubbish}
 use Rattle.rules.specs.declared.Message.{Message}
@@ -24,7 +24,7 @@ use Rattle.stock.proofs.Laws.{answer-number, notice-number}
 use Rattle.calls.specs.Setup.{setupsOf}
 use Rattle.book.specs.Lent.{Lent}
 use Rattle.book.specs.Words.{UnusedAre0}
-use Rattle.book.specs.Demands.{Family, Made, refused-setup, told, settled, was-read, calls, Answered, Demand2, Never1, AfterSetup}
+use Rattle.book.specs.Demands.{Family, Made, refused-setup, told, settled, was-read, next-given, calls, Answered, Demand2, Never1, AfterSetup}
 use Rattle.book.proofs.Layouts.{layout-is}
 use Rattle.book.proofs.Chains.{run-length, all-fit, started}
 use Rattle.book.proofs.Alike.{number-0}
@@ -96,6 +96,9 @@ module _ (end : ℕ) (us : List Setup) (accepted : Accepted end us) where
             clean cs i (omega (arith, long cs, l)) (read-1 _ (sym (answer-number _ _) ∙ n))
         go false q e = let n : _≡_ {A = ℕ} 3 1 = simp (first-is, q, if-false, ne-eqb 3 0 (λ z. omega (arith, z))) at e in omega (arith, n)
 
+    next-not-one : bookNext end (hs cs) places places i .number ≡ 1 → ⊥
+    next-not-one e = read-not-one (sym (demands .book-next end (hs cs) places places i .0) ∙ e)
+
   -- ---------------------------------------------------------------- along a chain
 
   never : 1 ≤ length us → length us ≤ 64 → (pre : Calls machine) (cs : List Made) → Answered end (hs pre) cs → Never1 cs
@@ -110,6 +113,7 @@ module _ (end : ℕ) (us : List Setup) (accepted : Accepted end us) where
     never s f (pre ++ (record { at = i; it = settle time } ∷ [])) cs (subst (λ x. Answered end x cs) (sym (run-snoc end (book end us) pre _)) (k .1)),
   )
   never s f pre (was-read i a ∷ cs) k = ((λ e. read-not-one pre i s f (sym (ap (λ x. x .number) (k .0)) ∙ e)), never s f pre cs (k .1))
+  never s f pre (next-given i u ∷ cs) k = ((λ e. next-not-one pre i s f (sym (ap (λ x. x .number) (k .0)) ∙ e)), never s f pre cs (k .1))
 
 -- ------------------------------------------------------------------ of every family that meets demand 2
 

@@ -27,7 +27,7 @@ use Rattle.book.specs.Lent.{Lent}
 use Rattle.book.specs.Layout.{layout}
 use Rattle.book.specs.Words.{setupTable}
 use Rattle.book.specs.Setup.{numberOf}
-use Rattle.book.specs.Demands.{Family, Made, refused-setup, told, settled, was-read, Chain, calls, Answered, accepted, noticed, SettledTo, Demand2, Demand3}
+use Rattle.book.specs.Demands.{Family, Made, refused-setup, told, settled, was-read, next-given, Chain, calls, Answered, accepted, noticed, SettledTo, Demand2, Demand3}
 use Rattle.book.proofs.Layouts.{length-records}
 use Rattle.book.proofs.SettingUp.{same-number}
 use Rattle.book.proofs.Chains.{Started, started, step-length, run-length, all-fit}
@@ -122,6 +122,7 @@ as-answered i end hs s f (settled j time a ∷ cs) k =
     (settled-number end hs s f j time a (k .0)) (settled-notice end hs s f j time a (k .0)) in
     (this .0 ∙ rest .0, this .1 ∙ ap (λ (l : List Notice). if allOf (eqb i j ∷ eqb (a .answer .number) 0 ∷ []) then a ∷ l else l) (rest .1))
 as-answered i end hs s f (was-read j a ∷ cs) k = as-answered i end hs s f cs (k .1)
+as-answered i end hs s f (next-given j u ∷ cs) k = as-answered i end hs s f cs (k .1)
 
 -- ------------------------------------------------------------------ one more call: settling
 
@@ -131,6 +132,7 @@ one-more 𝓕 b c d i time a q (refused-setup e list x ∷ cs) k = (k .0, k .1, 
 one-more 𝓕 b c d i time a q (told j m x ∷ cs) k = (k .0, k .1, one-more 𝓕 (k .0) c d i time a q cs (k .2))
 one-more 𝓕 b c d i time a q (settled j t x ∷ cs) k = (k .0, k .1, one-more 𝓕 (k .0) c d i time a q cs (k .2))
 one-more 𝓕 b c d i time a q (was-read j x ∷ cs) k = (k .0, one-more 𝓕 b c d i time a q cs (k .1))
+one-more 𝓕 b c d i time a q (next-given j u ∷ cs) k = (k .0, one-more 𝓕 b c d i time a q cs (k .1))
 
 the-last : (end i time : ℕ) (a : Notice) (hs : List Whole) (cs : List Made) → Answered end hs (cs ++ (settled i time a ∷ []))
     → let left = run machine (blank end) hs (calls cs) in a ≡ bookSettles end left (512 * length left) (512 * length left) i time
@@ -139,6 +141,7 @@ the-last end i time a hs (refused-setup e list x ∷ cs) k = the-last end i time
 the-last end i time a hs (told j m x ∷ cs) k = the-last end i time a (stepIn machine (blank end) hs (record { at = j; it = tell m })) cs (k .1)
 the-last end i time a hs (settled j t x ∷ cs) k = the-last end i time a (stepIn machine (blank end) hs (record { at = j; it = settle t })) cs (k .1)
 the-last end i time a hs (was-read j x ∷ cs) k = the-last end i time a hs cs (k .1)
+the-last end i time a hs (next-given j u ∷ cs) k = the-last end i time a hs cs (k .1)
 
 -- ------------------------------------------------------------------ demand 3
 
@@ -177,7 +180,7 @@ module _ (𝓕 : Family) (d : Demand2 𝓕) (end : ℕ) (list : List ℕ) (b₀ 
           let q = d .from-setup end list b₀ b (n .1) a (cs ++ (settled i time (n .0) ∷ [])) p z (one-more 𝓕 b b′ (n .1) i time (n .0) (n .2) cs k) .0 in
           let own = the-last end i time (n .0) (book end us) cs q in
           sym (settled-own end left (omega (arith, long, s .some)) (omega (arith, long, s .few)) i time (n .0) own (omega (arith, long, here)) .1) ∙ n .3;
-      nothing-later = λ i. subst (Every (λ (n : Notice). n .moment .time ≤ time)) (sym (stories i .1)) (t .nothing-later i);
+      nothing-later = λ i. subst (Every (λ (n : Notice). n .time ≤ time)) (sym (stories i .1)) (t .nothing-later i);
     }
 
 pub alike : (𝓕 : Family) → Demand2 𝓕 → Demand3 𝓕

@@ -11,14 +11,13 @@ use lib.ListN.{length, getD, set}
 use lib.Seq.{set-getD}
 use Rattle.forms.proofs.Choice.{if-true, if-false, goes, passes, any-head, any-tail, eq-of-not}
 use Rattle.forms.proofs.Checks.{beyond}
-use Rattle.rules.specs.Numbers.{badShape, callChecks, zeros}
-use Rattle.rules.specs.declared.Answer.{Answer}
+use Rattle.rules.specs.Numbers.{badShape, callChecks}
 use Rattle.rules.specs.declared.Message.{Message}
-use Rattle.stock.specs.View.{Bytes, Outcome, telling, settling, reading}
+use Rattle.stock.specs.View.{Bytes, Outcome, telling, settling}
 use Rattle.stock.specs.declared.Record.{Record}
 use Rattle.stock.proofs.Laws as stock
 use Rattle.calls.specs.Parts.{Placed}
-use Rattle.book.specs.Lent.{Lent, lent, noRecord, Given, bytesOf, callNumber, calling, readingIn}
+use Rattle.book.specs.Lent.{Lent, lent, noRecord, Given, bytesOf, callNumber, calling, asking}
 
 -- ------------------------------------------------------------------ the test of the number
 
@@ -96,13 +95,13 @@ told-unchanged m x = stock.laws .told-refused m x (record { answer = telling m x
 pub settled-unchanged : (time : ℕ) (x : Bytes) → ¬ (settling time x .answer .answer .number ≡ 0) → settling time x .bytes ≡ x
 settled-unchanged time x = stock.laws .settled-refused time x (record { notice = settling time x .answer; next = settling time x .bytes .kept }) _ _ refl
 
--- ------------------------------------------------------------------ what reading gives
+-- ------------------------------------------------------------------ what a call gives that changes nothing
 
-module _ (i n : ℕ) (b : Lent) (a : Answer) where
-  pub read-in : n ≡ callNumber i b → T (not (not (eqb n 0))) → a ≡ reading (bytesOf i b) → a ≡ readingIn i b
-  unfolding readingIn
-  read-in e t q = goes (eqb (callNumber i b) 0) a _ _ (goes-on i n b e t) q
+module _ {A : Type 0} (i n : ℕ) (given : Bytes → A) (beside : ℕ → A) (b : Lent) (a : A) where
+  pub asked-in : n ≡ callNumber i b → T (not (not (eqb n 0))) → a ≡ given (bytesOf i b) → a ≡ asking i given beside b
+  unfolding asking
+  asked-in e t q = goes (eqb (callNumber i b) 0) a _ _ (goes-on i n b e t) q
 
-  pub unread-in : n ≡ callNumber i b → T (not (eqb n 0)) → a ≡ zeros n → a ≡ readingIn i b
-  unfolding readingIn
-  unread-in e t q = passes (eqb (callNumber i b) 0) a _ _ (stops i n b e t) (rw e at q)
+  pub unasked-in : n ≡ callNumber i b → T (not (eqb n 0)) → a ≡ beside n → a ≡ asking i given beside b
+  unfolding asking
+  unasked-in e t q = passes (eqb (callNumber i b) 0) a _ _ (stops i n b e t) (rw e at q)

@@ -11,13 +11,13 @@ use lib.ListN.{length, length-set, length-take, length-drop}
 use lib.Seq.{getD-set-same, getD-set-other, set-getD}
 use Rattle.forms.proofs.Choice.{if-arms, any-head, any-tail, eq-of-not}
 use Rattle.forms.proofs.Checks.{passed}
-use Rattle.rules.specs.Numbers.{badShape, callChecks, zeros}
+use Rattle.rules.specs.Numbers.{badShape, callChecks, zeros, noNotice}
 use Rattle.rules.specs.declared.Answer.{Answer}
 use Rattle.rules.specs.declared.Message.{Message}
 use Rattle.rules.specs.declared.Notice.{Notice}
 use Rattle.stock.specs.View.{Bytes, shaped, Outcome, telling, settling}
 use Rattle.stock.proofs.Laws as stock
-use Rattle.calls.specs.Parts.{part, noNotice}
+use Rattle.calls.specs.Parts.{part}
 use Rattle.calls.proofs.Parts.{part-put, part-put-other, put-part, length-put}
 use Rattle.book.specs.Lent.{Lent, noRecord, bytesOf, withBytes, Given, callNumber, calling}
 use Rattle.book.specs.Laws.{Has, LetThrough, Touched, ToldRefused, SettledRefused, ToldTouches, SettledTouches}

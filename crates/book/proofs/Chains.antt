@@ -32,11 +32,11 @@ use Rattle.book.specs.Lent.{Lent, lent, Given}
 use Rattle.book.specs.Words.{setupTable}
 use Rattle.book.specs.Layout.{empty, stockBytes, layout}
 use Rattle.book.specs.Setup.{numberOf, SetsUp}
-use Rattle.book.specs.Demands.{ours, Made, refused-setup, told, settled, was-read, Chain, calls, Answered, Demand2}
+use Rattle.book.specs.Demands.{ours, Made, refused-setup, told, settled, was-read, next-given, Chain, calls, Answered, Demand2}
 use Rattle.book.proofs.SettingUp.{answered, number-0, started as set-up}
 use Rattle.book.proofs.Laws.{laws}
 use Rattle.book.proofs.Layouts.{Fits}
-use Rattle.book.proofs.Follows.{tell-follows, settle-follows, read-follows}
+use Rattle.book.proofs.Follows.{tell-follows, settle-follows, read-follows, next-follows}
 
 -- ------------------------------------------------------------------ the book that a setup starts
 
@@ -126,6 +126,9 @@ follows end hs a s f (settled i time r ∷ cs) b′ k =
 follows end hs a s f (was-read i r ∷ cs) b′ k =
     let rest = follows end hs a s f cs b′ (k .1) in
     ((k .0 ∙ read-follows end hs a s f i (every-at hs (blank end) a i), rest .0), rest .1)
+follows end hs a s f (next-given i u ∷ cs) b′ k =
+    let rest = follows end hs a s f cs b′ (k .1) in
+    ((k .0 ∙ next-follows end hs a s f i (every-at hs (blank end) a i), rest .0), rest .1)
 
 -- ------------------------------------------------------------------ an accepted setup
 

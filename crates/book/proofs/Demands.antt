@@ -4,14 +4,13 @@ use Prim.Native.Nat.{ℕ}
 use mathlib.Core.Path.{refl, sym, subst}
 use Rattle.forms.specs.Words.{Gives}
 use Rattle.rules.specs.Stock.{Whole}
-use Rattle.rules.specs.Numbers.{zeros, tellAnswer, settleAnswer, readAnswer}
+use Rattle.rules.specs.Numbers.{zeros, noNotice, tellAnswer, settleAnswer, readAnswer, noneComing, nextAnswer}
 use Rattle.rules.specs.Words.{refusals, settleRefusals, readRefusals}
 use Rattle.rules.specs.declared.Message.{Message}
 use Rattle.rules.specs.declared.Notice.{Notice}
 use Rattle.rules.proofs.Demands.{demands as rules}
 use Rattle.stock.specs.View.{telling, settling}
-use Rattle.calls.specs.Parts.{noNotice}
-use Rattle.book.specs.Lent.{calling, readingIn}
+use Rattle.book.specs.Lent.{calling, readingIn, comingIn}
 use Rattle.book.specs.Setup.{setting}
 use Rattle.book.specs.Laws.{AnsweredBy}
 use Rattle.book.specs.Demands.{ours, Demand1, Demands}
@@ -21,7 +20,10 @@ use Rattle.book.proofs.OneStock.{one-stock}
 use Rattle.book.proofs.Chains.{demand2}
 use Rattle.book.proofs.Alike.{alike}
 use Rattle.book.proofs.After.{after-setup}
-use Rattle.book.proofs.Wrong.{silent-fails, refusing-fails, fixed-fails, leaving-fails, acknowledging-fails}
+use Rattle.book.proofs.Copies.{copied}
+use Rattle.book.proofs.Entries.{journals-grow}
+use Rattle.book.proofs.Replay.{recovery}
+use Rattle.book.proofs.Wrong.{silent-fails, refusing-fails, fixed-fails, leaving-fails, acknowledging-fails, blind-fails, unaware-fails}
 
 -- the number in a stock's answer is that of its table
 told : (m : Message) (h : Whole) → Gives (refusals m h) (tellAnswer m h .number)
@@ -33,12 +35,16 @@ settled time h = subst (Gives (settleRefusals time h)) (sym (rules .shows h .1 t
 was-read : (h : Whole) → Gives (readRefusals h) (readAnswer h .number)
 was-read h = subst (Gives (readRefusals h)) (sym (rules .shows h .2 .0)) (rules .numbers h _ .2 .0 refl)
 
+next-given : (h : Whole) → Gives (readRefusals h) (nextAnswer h .number)
+next-given h = subst (Gives (readRefusals h)) (sym (rules .next-is h .0)) (rules .numbers h _ .2 .0 refl)
+
 demand1 : Demand1 ours
 demand1 = record {
   setup-answered = λ end list b. (setting end list b .answer, setting end list b .book, refl);
   tell-answered = λ i m b. (calling i (telling m) zeros b .answer, calling i (telling m) zeros b .book, refl);
   settle-answered = λ i time b. (calling i (settling time) noNotice b .answer, calling i (settling time) noNotice b .book, refl);
   read-answered = λ i b. (readingIn i b, refl);
+  next-answered = λ i b. (comingIn i b, refl);
   setup-number = demand2 .setup-number;
   tell-number = λ i m b a b′ h e p.
       number-by i b a (tellAnswer m h) zeros (λ x. x .number) (λ n. refl) _ (told m h) (laws .told-by-the-rules i m b a b′ h e p .0);
@@ -46,10 +52,13 @@ demand1 = record {
       number-by i b a (settleAnswer time h) noNotice (λ (x : Notice). x .answer .number) (λ n. refl) _ (settled time h) (laws .settled-by-the-rules i time b a b′ h e p .0);
   read-number = λ i b a h e p.
       number-by i b a (readAnswer h) zeros (λ x. x .number) (λ n. refl) _ (was-read h) (subst (λ x. AnsweredBy i b x (readAnswer h) zeros) (sym e) (laws .read-by-the-rules i b h p));
+  next-number = λ i b u h e p.
+      number-by i b u (nextAnswer h) noneComing (λ x. x .number) (λ n. refl) _ (next-given h) (subst (λ x. AnsweredBy i b x (nextAnswer h) noneComing) (sym e) (laws .next-by-the-rules i b h p));
   setup-determined = laws .setup-determined;
   tell-determined = laws .tell-determined;
   settle-determined = laws .settle-determined;
   read-determined = laws .read-determined;
+  next-determined = laws .next-determined;
   setup-leaves = laws .set-up-refused;
   tell-leaves = laws .told-refused;
   settle-leaves = laws .settled-refused;
@@ -62,9 +71,14 @@ demands = record {
   demand3 = alike;
   after-setup = after-setup;
   one-stock = one-stock;
+  recovery = recovery;
+  copied = copied;
+  journals-grow = journals-grow;
   silent-fails = silent-fails;
   refusing-fails = refusing-fails;
   fixed-fails = fixed-fails;
   leaving-fails = leaving-fails;
   acknowledging-fails = acknowledging-fails;
+  blind-fails = blind-fails;
+  unaware-fails = unaware-fails;
 }

@@ -16,13 +16,12 @@ use Rattle.rules.specs.Stock.{Whole}
 use Rattle.rules.specs.Moments.{fire}
 use Rattle.rules.specs.Messages.{after}
 use Rattle.rules.specs.Machine.{Every, tell, settle, stock, numberIn, stepIn}
-use Rattle.rules.specs.Book.{machine, blank, bookTells, bookSettles, bookReads}
-use Rattle.rules.specs.Numbers.{badShape, callChecks, zeros, tells, settles, tellAnswer, settleAnswer, readAnswer}
+use Rattle.rules.specs.Book.{machine, blank, bookTells, bookSettles, bookReads, bookNext}
+use Rattle.rules.specs.Numbers.{badShape, callChecks, zeros, noNotice, tells, settles, tellAnswer, settleAnswer, readAnswer, noneComing, nextAnswer}
 use Rattle.rules.specs.declared.Message.{Message}
-use Rattle.stock.specs.View.{Bytes, reading, lay, Outcome, telling, settling}
+use Rattle.stock.specs.View.{Bytes, reading, coming, lay, Outcome, telling, settling}
 use Rattle.stock.proofs.Laws as stocks
-use Rattle.calls.specs.Parts.{noNotice}
-use Rattle.book.specs.Lent.{bytesOf, callNumber, calling, readingIn}
+use Rattle.book.specs.Lent.{bytesOf, callNumber, calling, asking, readingIn, comingIn}
 use Rattle.book.specs.Layout.{stockBytes, layout}
 use Rattle.book.proofs.Layouts.{Fits, in-shape, lay-again, read-again, length-records, length-times, length-prices, bytes-of, with-bytes}
 
@@ -50,6 +49,9 @@ module _ (h : Whole) (f : Fits h) where
 
 reading-is : (h : Whole) → Fits h → reading (stockBytes h) ≡ readAnswer h
 reading-is h f = stocks.laws .read-by-the-rules (stockBytes h) .0 (in-shape h f) ∙ ap readAnswer (read-again h)
+
+coming-is : (h : Whole) → Fits h → coming (stockBytes h) ≡ nextAnswer h
+coming-is h f = stocks.laws .next-by-the-rules (stockBytes h) .0 (in-shape h f) ∙ ap nextAnswer (read-again h)
 
 -- ------------------------------------------------------------------ a book of 1 to 64 stocks
 
@@ -128,17 +130,28 @@ module _ (end : ℕ) (hs : List Whole) (all : Every Fits hs) (some : 1 ≤ lengt
           simp (first-number i, q, if-true, eq-eqb 0 0 refl) (called i (settling time) noNotice (settleAnswer time h) (settles time h) (fire h) l (settling-is h (f l) time (k l)))
       go false q = simp (first-number i, q, if-false, ne-eqb 3 0 (λ e. omega arith)) (absent i (settling time) noNotice (ltb-false _ _ q))
 
-  -- reading it
-  pub read-follows : (i : ℕ) → (i < length hs → Fits (stock machine (blank end) hs i)) → readingIn i (layout hs) ≡ bookReads end hs places places i
-  unfolding readingIn bookReads
-  read-follows i f = go (ltb i (length hs)) refl
+  -- a call that changes nothing
+  ask-follows : {A : Type 0} (given : Bytes → A) (own : Whole → A) (beside : ℕ → A) → ((h : Whole) → Fits h → given (stockBytes h) ≡ own h)
+      → (i : ℕ) → (i < length hs → Fits (stock machine (blank end) hs i))
+      → asking i given beside (layout hs)
+      ≡ (let number = first (callChecks (length hs) places places i) in if eqb number 0 then own (stock machine (blank end) hs i) else beside number)
+  unfolding asking
+  ask-follows given own beside is i f = go (ltb i (length hs)) refl
     where
-      go : (b : Bool) → ltb i (length hs) ≡ b → readingIn i (layout hs) ≡ bookReads end hs places places i
+      go : (b : Bool) → ltb i (length hs) ≡ b → asking i given beside (layout hs)
+          ≡ (let number = first (callChecks (length hs) places places i) in if eqb number 0 then own (stock machine (blank end) hs i) else beside number)
       go true q =
           let l = ltb-true i (length hs) q in
-          let h = stock machine (blank end) hs i in
           let z : callNumber i (layout hs) ≡ 0 = number-is i ∙ first-number i ∙ simp (q, if-true) in
-          simp (z, first-number i, q, eq-eqb 0 0 refl, if-true) (ap reading (bytes-of hs all i l (blank end)) ∙ reading-is h (f l))
+          simp (z, first-number i, q, eq-eqb 0 0 refl, if-true) (ap given (bytes-of hs all i l (blank end)) ∙ is _ (f l))
       go false q =
           let z : callNumber i (layout hs) ≡ 3 = number-is i ∙ first-number i ∙ simp (q, if-false) in
           simp (z, first-number i, q, ne-eqb 3 0 (λ e. omega (arith, e)), if-false)
+
+  pub read-follows : (i : ℕ) → (i < length hs → Fits (stock machine (blank end) hs i)) → readingIn i (layout hs) ≡ bookReads end hs places places i
+  unfolding bookReads
+  read-follows = ask-follows reading readAnswer zeros reading-is
+
+  pub next-follows : (i : ℕ) → (i < length hs → Fits (stock machine (blank end) hs i)) → comingIn i (layout hs) ≡ bookNext end hs places places i
+  unfolding bookNext
+  next-follows = ask-follows coming nextAnswer noneComing coming-is

@@ -1,14 +1,13 @@
 -- The laws of specs/Laws.antt.
 -- Assumes nothing.
 use Rattle.forms.proofs.Promises.{agree}
-use Rattle.rules.specs.Numbers.{zeros}
+use Rattle.rules.specs.Numbers.{zeros, noNotice}
 use Rattle.stock.specs.View.{telling, settling}
-use Rattle.calls.specs.Parts.{noNotice}
-use Rattle.book.specs.Lent.{calling, readingIn}
+use Rattle.book.specs.Lent.{calling, readingIn, comingIn}
 use Rattle.book.specs.Setup.{setting}
 use Rattle.book.specs.Laws.{Laws}
 use Rattle.book.proofs.Calls.{let-through, written, of-others, leaves, told-refused, settled-refused, told-touches, settled-touches}
-use Rattle.book.proofs.Meaning.{lent-is, one-meaning, told-by-the-rules, settled-by-the-rules, read-by-the-rules}
+use Rattle.book.proofs.Meaning.{lent-is, one-meaning, told-by-the-rules, settled-by-the-rules, read-by-the-rules, next-by-the-rules}
 use Rattle.book.proofs.Layouts.{layout-is}
 use Rattle.book.proofs.SettingUp as setting-up
 
@@ -23,6 +22,7 @@ laws = record {
   told-by-the-rules = told-by-the-rules;
   settled-by-the-rules = settled-by-the-rules;
   read-by-the-rules = read-by-the-rules;
+  next-by-the-rules = next-by-the-rules;
   call-leaves = λ A. leaves {A = A};
   told-refused = told-refused;
   settled-refused = settled-refused;
@@ -35,5 +35,6 @@ laws = record {
   tell-determined = λ i m b. agree (calling i (telling m) zeros b);
   settle-determined = λ i time b. agree (calling i (settling time) noNotice b);
   read-determined = λ i b. agree (readingIn i b);
+  next-determined = λ i b. agree (comingIn i b);
   setup-determined = λ end list b. agree (setting end list b);
 }

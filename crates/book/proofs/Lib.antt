@@ -15,5 +15,8 @@ pub mod Chains
 pub mod Alike
 pub mod Wrong
 pub mod After
+pub mod Replay
+pub mod Entries
+pub mod Copies
 pub mod OneStock
 pub mod Demands

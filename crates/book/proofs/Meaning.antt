@@ -13,16 +13,16 @@ use Rattle.forms.specs.Words.{Number, Gives}
 use Rattle.forms.proofs.Choice.{if-true, if-false}
 use Rattle.forms.proofs.Decides.{take, skip}
 use Rattle.rules.specs.Stock.{Trade, Whole}
-use Rattle.rules.specs.Numbers.{zeros, afterTelling, afterSettling, tellAnswer, settleAnswer, readAnswer}
+use Rattle.rules.specs.Numbers.{zeros, noNotice, afterTelling, afterSettling, tellAnswer, settleAnswer, readAnswer, noneComing, nextAnswer}
 use Rattle.rules.specs.declared.Message.{Message}
 use Rattle.rules.proofs.Answers.{Called, wrong-shape, no-stock, there, called}
-use Rattle.stock.specs.View.{Bytes, view, shaped, Outcome, telling, settling}
+use Rattle.stock.specs.View.{Bytes, view, shaped, Outcome, telling, settling, reading, coming}
 use Rattle.stock.proofs.Laws as stock
-use Rattle.calls.specs.Parts.{part, noNotice}
+use Rattle.calls.specs.Parts.{part}
 use Rattle.calls.proofs.Parts.{part-is}
-use Rattle.book.specs.Lent.{Lent, bytesOf, Given, callNumber, calling, readingIn}
+use Rattle.book.specs.Lent.{Lent, bytesOf, Given, callNumber, calling, asking}
 use Rattle.book.specs.Words.{recordAt, noTrade, Means, InShape, callTable}
-use Rattle.book.specs.Laws.{LentIs, OneMeaning, Touched, AnsweredBy, ToldByTheRules, SettledByTheRules, ReadByTheRules}
+use Rattle.book.specs.Laws.{LentIs, OneMeaning, Touched, AnsweredBy, ToldByTheRules, SettledByTheRules, ReadByTheRules, NextByTheRules}
 use Rattle.book.proofs.Calls.{let-through, bytes-shaped, told-touches, settled-touches}
 
 -- ------------------------------------------------------------------ the places of a stock
@@ -119,7 +119,7 @@ number-by i b x own beside numberOf its table g a = go (called (length (b .recor
     go (there s l e) = skip 1 _ _ _ (λ n. n s) (skip 3 _ _ _ (λ k. omega (arith, k, l)) (subst (λ y. Gives table (numberOf y)) (sym (a .there s l)) g))
 
 -- what is let through is a stock of a book of the right shape, and owns its places
-let-in : (i : ℕ) (b : Lent) → InShape b → i < length (b .records) → callNumber i b ≡ 0
+pub let-in : (i : ℕ) (b : Lent) → InShape b → i < length (b .records) → callNumber i b ≡ 0
 let-in i b s l = go (called (length (b .records)) (length (b .times)) (length (b .prices)) i)
   where
     go : Called (length (b .records)) (length (b .times)) (length (b .prices)) i → callNumber i b ≡ 0
@@ -171,12 +171,19 @@ pub settled-by-the-rules : SettledByTheRules
 settled-by-the-rules i time b r b′ h e p =
     by-the-rules i (settling time) noNotice b (settleAnswer time) (afterSettling time) (settled-rules time) r b′ e (settled-touches i time b r b′ e) h p
 
--- ------------------------------------------------------------------ reading
+-- ------------------------------------------------------------------ reading, and what comes next
+
+asked-by-the-rules : {A : Type 0} (given : Bytes → A) (own : Whole → A) (beside : ℕ → A) → ((x : Bytes) → shaped x ≡ true → given x ≡ own (view x))
+    → (i : ℕ) (b : Lent) (h : Whole) → Means i b h → AnsweredBy i b (asking i given beside b) (own h) beside
+unfolding asking
+asked-by-the-rules given own beside rules i b h p =
+    let is : h ≡ view (bytesOf i b) = one-meaning i b h .0 p in
+    answered-by i b (own h) beside (asking i given beside b)
+    (λ z. if-true _ _ _ (eq-eqb _ 0 z) ∙ rules (bytesOf i b) (in-parts i b z) ∙ ap own (sym is))
+    (λ n. if-false _ _ _ (ne-eqb _ 0 n))
 
 pub read-by-the-rules : ReadByTheRules
-unfolding readingIn
-read-by-the-rules i b h p =
-    let is : h ≡ view (bytesOf i b) = one-meaning i b h .0 p in
-    answered-by i b (readAnswer h) zeros (readingIn i b)
-    (λ z. if-true _ _ _ (eq-eqb _ 0 z) ∙ stock.laws .read-by-the-rules (bytesOf i b) .0 (in-parts i b z) ∙ ap readAnswer (sym is))
-    (λ n. if-false _ _ _ (ne-eqb _ 0 n))
+read-by-the-rules = asked-by-the-rules reading readAnswer zeros (λ x. stock.laws .read-by-the-rules x .0)
+
+pub next-by-the-rules : NextByTheRules
+next-by-the-rules = asked-by-the-rules coming nextAnswer noneComing (λ x. stock.laws .next-by-the-rules x .0)

@@ -1,29 +1,34 @@
--- The five wrong books fail, each at one call on a book of one stock: the silent one demand 1, the others demand 2.
+-- The seven wrong books fail, each at a few calls on a book of one stock: the silent one demand 1, the others demand 2.
 -- Assumes nothing.
-use Prim.Native.Nat.{ℕ}
+use Prim.Native.Nat.{ℕ, _*_}
 use mathlib.Core.List.{List, [], _∷_, flatten}
 use mathlib.Core.Path.{_≡_, refl, sym, ap, _∙_}
 use native.Mathlib.Omega.{arith}
-use lib.ListN.{getD, replicate}
+use lib.ListN.{length, getD, replicate}
 use Rattle.forms.specs.Choice.{if_then_else_, allOf, anyOf}
 use Rattle.forms.specs.Checks.{first}
-use Rattle.rules.specs.Stock.{total, oldest, figuresOf}
-use Rattle.rules.specs.Quotes.{inForce, kTime, bandsIn}
-use Rattle.rules.specs.States.{look}
+use Rattle.band.specs.Band.{percentOf, factorOf, spreadOf, cent, lowerOf, upperOf, bandsOf}
+use Rattle.rules.specs.Stock.{Whole, total, oldest, figuresOf}
+use Rattle.rules.specs.Quotes.{inForce, kTime, bandsIn, higher, lesser, bestBid, bestOffer, bidFlag, offerFlag, bestOf, flagged, crossed}
+use Rattle.rules.specs.States.{look, begin-trading}
 use Rattle.rules.specs.Moments.{momentTable, sooner, earliest, next, dueBy, pastAt}
 use Rattle.rules.specs.Messages.{taken, quoteRules, does, after}
-use Rattle.rules.specs.Numbers.{notPrice, badEnd, badSetup, badTimes, orNotSide, badQuotes, badReference, badTrade, see, badTrades, badStock, rubbish, outOfRange, notPrimary, ownChecks, messageChecks, checks, tells, fresh, orBadSetup, badShape, setupChecks, zeros}
-use Rattle.rules.specs.Machine.{numberIn, stepIn, run}
-use Rattle.rules.specs.Book.{machine, blank, book}
-use Rattle.rules.specs.declared.Message.the-variants.{Quote}
+use Rattle.rules.specs.Numbers.{notPrice, badEnd, badSetup, badTimes, orNotSide, badQuotes, badReference, badTrade, see, badTrades, badStock, rubbish, outOfRange, notPrimary, ownChecks, messageChecks, checks, tells, readChecks, reads, answer, readAnswer, nextAnswer, fresh, orBadSetup, badShape, callChecks, setupChecks, zeros}
+use Rattle.rules.specs.Machine.{tell, numberIn, stepIn, run}
+use Rattle.rules.specs.Book.{machine, blank, book, bookReads, bookNext}
+use Rattle.rules.specs.declared.Message.{Message}
+use Rattle.rules.specs.declared.Message.the-variants.{Quote, Opening}
 use Rattle.window.specs.Places.{laid}
 use Rattle.rules.specs.declared.Answer.{Answer}
 use Rattle.rules.specs.declared.Notice.{Notice}
+use Rattle.rules.specs.declared.Upcoming.{Upcoming}
+use Rattle.stock.specs.View.{telling}
 use Rattle.calls.specs.Setup.{setupsOf, setupNumber}
-use Rattle.book.specs.Lent.{Lent, lent, noRecord}
+use Rattle.book.specs.Lent.{Lent, lent, noRecord, calling, readingIn, comingIn}
 use Rattle.book.specs.Layout.{layout}
-use Rattle.book.specs.Setup.{numberOf, setting}
-use Rattle.book.specs.Demands.{Made, told, calls, Demand1, Demand2, silent, refusing, fixed, leaving, acknowledging}
+use Rattle.book.specs.Setup.{numberOf, setting, SetsUp}
+use Rattle.book.specs.Demands.{Made, told, was-read, next-given, calls, Demand1, Demand2, silent, refusing, fixed, leaving, acknowledging, blind, unaware}
+use Rattle.book.proofs.Chains.{demand2}
 use Rattle.book.proofs.SettingUp.{same-number}
 
 -- one stock, one of whose places is not 0
@@ -53,8 +58,8 @@ silent-fails d = d .setup-answered end one used .2
 pub refusing-fails : Demand2 refusing → ⊥
 refusing-fails d = let n = same-number end one used 1 (d .setup-number end one used used (zeros 1) (refl, refl)) in omega (arith, n, accepted)
 
-pub fixed-fails : (x : Answer) (y : Notice) → Demand2 (fixed x y) → ⊥
-fixed-fails x y d =
+pub fixed-fails : (x : Answer) (y : Notice) (u : Upcoming) → Demand2 (fixed x y u) → ⊥
+fixed-fails x y u d =
     let n = same-number end one used (x .number) (d .setup-number end one used used x refl) in
     let m = same-number 0 one used (x .number) (d .setup-number 0 one used used x refl) in
     omega (arith, n, m, accepted, not-accepted)
@@ -88,4 +93,72 @@ acknowledging-fails d =
     let later = d .from-setup end one used b b (zeros 0) quoted (ap (λ a. record { answer = a; book = b }) (sym set-up)) refl (b, (refl, refl), refl) .1 in
     let clock : Lent → ℕ = λ b. getD (b .records) 0 noRecord .stock .course .clock in
     let z : _≡_ {A = ℕ} 0 1 = ap clock (sym before ∙ later) ∙ moves in
+    omega (arith, z)
+
+-- ------------------------------------------------------------------ what reading and asking what comes next tell
+
+-- the primary opens the stock
+abbrev opens : Message
+opens = Opening 1 0 10_000
+
+-- the stock as the rules have it, fresh and opened
+abbrev new : List Whole
+new = book end (setupsOf one)
+
+abbrev opened : List Whole
+opened = stepIn machine (blank end) new (record { at = 0; it = tell opens })
+
+-- what the rules answer
+abbrev reads-in : List Whole → Answer
+reads-in hs = bookReads end hs (512 * length hs) (512 * length hs) 0
+
+abbrev comes-in : List Whole → Upcoming
+comes-in hs = bookNext end hs (512 * length hs) (512 * length hs) 0
+
+-- they answer 0 to both, but do not tell the same: the state is 0 and then 1, and next comes f and then h
+tells-apart :
+    (reads-in new .number ≡ 0) × (reads-in opened .number ≡ 0) × (reads-in new .state ≡ 0) × (reads-in opened .state ≡ 1)
+    × (comes-in new .number ≡ 0) × (comes-in opened .number ≡ 0) × (comes-in new .time ≡ 300_000) × (comes-in opened .time ≡ 30_001)
+unfolding if_then_else_ allOf anyOf first percentOf factorOf spreadOf cent lowerOf upperOf bandsOf total oldest figuresOf inForce kTime bandsIn higher lesser bestBid bestOffer bidFlag offerFlag bestOf flagged crossed look begin-trading momentTable sooner earliest next dueBy pastAt taken does after notPrice badEnd badSetup badTimes orNotSide badQuotes badReference badTrade see badTrades badStock rubbish outOfRange notPrimary ownChecks messageChecks checks tells readChecks reads answer readAnswer nextAnswer fresh badShape callChecks numberIn stepIn bookReads bookNext setupsOf
+tells-apart = (refl, refl, refl, refl, refl, refl, refl, refl)
+
+-- the bytes of both
+abbrev fresh-book : Lent
+fresh-book = setting end one used .book
+
+abbrev opened-book : Lent
+opened-book = calling 0 (telling opens) zeros fresh-book .book
+
+started : SetsUp end one used (zeros 0) fresh-book
+started = ap (λ a. record { answer = a; book = fresh-book }) (sym set-up)
+
+-- asked, opened and asked again
+abbrev again : Made → Made → List Made
+again x y = x ∷ told 0 opens (calling 0 (telling opens) zeros fresh-book .answer) ∷ y ∷ []
+
+-- a function of the number would give both the same
+pub blind-fails : (x : ℕ → Answer) → Demand2 (blind x) → ⊥
+unfolding setupsOf
+blind-fails x d =
+    let r = demand2 .from-setup end one used fresh-book opened-book (zeros 0) (again (was-read 0 (readingIn 0 fresh-book)) (was-read 0 (readingIn 0 opened-book)))
+    started refl (refl, (opened-book, refl, (refl, refl))) .0 in
+    let k = d .from-setup end one used fresh-book opened-book (zeros 0)
+    (again (was-read 0 (x (readingIn 0 fresh-book .number))) (was-read 0 (x (readingIn 0 opened-book .number))))
+    started refl (refl, (opened-book, refl, (refl, refl))) .0 in
+    let same : readingIn 0 fresh-book .number ≡ readingIn 0 opened-book .number =
+    ap (λ a. a .number) (r .0) ∙ tells-apart .0 ∙ sym (ap (λ a. a .number) (r .1 .1 .0) ∙ tells-apart .1) in
+    let z : _≡_ {A = ℕ} 0 1 = sym (tells-apart .2) ∙ ap (λ a. a .state) (sym (k .0) ∙ ap x same ∙ k .1 .1 .0) ∙ tells-apart .3 in
+    omega (arith, z)
+
+pub unaware-fails : (u : ℕ → Upcoming) → Demand2 (unaware u) → ⊥
+unfolding setupsOf
+unaware-fails u d =
+    let r = demand2 .from-setup end one used fresh-book opened-book (zeros 0) (again (next-given 0 (comingIn 0 fresh-book)) (next-given 0 (comingIn 0 opened-book)))
+    started refl (refl, (opened-book, refl, (refl, refl))) .0 in
+    let k = d .from-setup end one used fresh-book opened-book (zeros 0)
+    (again (next-given 0 (u (comingIn 0 fresh-book .number))) (next-given 0 (u (comingIn 0 opened-book .number))))
+    started refl (refl, (opened-book, refl, (refl, refl))) .0 in
+    let same : comingIn 0 fresh-book .number ≡ comingIn 0 opened-book .number =
+    ap (λ a. a .number) (r .0) ∙ tells-apart .4 ∙ sym (ap (λ a. a .number) (r .1 .1 .0) ∙ tells-apart .5) in
+    let z : _≡_ {A = ℕ} 300_000 30_001 = sym (tells-apart .6) ∙ ap (λ a. a .time) (sym (k .0) ∙ ap u same ∙ k .1 .1 .0) ∙ tells-apart .7 in
     omega (arith, z)

@@ -10,16 +10,16 @@ use Rattle.forms.specs.Promises.{Determines}
 use Rattle.forms.specs.Words.{_and_}
 use Rattle.rules.specs.Stock.{Whole}
 use Rattle.rules.specs.Machine.{Every}
-use Rattle.rules.specs.Numbers.{zeros, fresh, afterTelling, afterSettling, tellAnswer, settleAnswer, readAnswer, setupAnswer}
+use Rattle.rules.specs.Numbers.{zeros, noNotice, fresh, afterTelling, afterSettling, tellAnswer, settleAnswer, readAnswer, noneComing, nextAnswer, setupAnswer}
 use Rattle.rules.specs.declared.Answer.{Answer}
 use Rattle.rules.specs.declared.Message.{Message}
 use Rattle.rules.specs.declared.Notice.{Notice}
+use Rattle.rules.specs.declared.Upcoming.{Upcoming}
 use Rattle.stock.specs.View.{Bytes, view, shaped, Outcome, telling, settling}
 use Rattle.stock.specs.declared.Record.{Record}
-use Rattle.calls.specs.Parts.{noNotice}
 use Rattle.calls.specs.Setup.{setupsOf}
 use Rattle.calls.specs.Words.{setupIn}
-use Rattle.book.specs.Lent.{Lent, lent, bytesOf, withBytes, Given, callNumber, calling, TellsIn, SettlesIn, readingIn}
+use Rattle.book.specs.Lent.{Lent, lent, bytesOf, withBytes, Given, callNumber, calling, TellsIn, SettlesIn, readingIn, comingIn}
 use Rattle.book.specs.Words.{Means, UnusedAre0, LaidOut, InShape}
 use Rattle.book.specs.Setup.{SetsUp}
 use Rattle.book.specs.Layout.{layout}
@@ -39,7 +39,7 @@ pub record Has (i : ℕ) (b : Lent) : Type 0 where
   pub times : 512 * i + 512 ≤ length (b .times)
   pub prices : 512 * i + 512 ≤ length (b .prices)
 
--- a stock that the first checks let through is one that the book has
+-- where the first checks let a call through, the book has its stock
 abbrev pub LetThrough : Type 0
 LetThrough = (i : ℕ) (b : Lent) → callNumber i b ≡ 0 → Has i b
 
@@ -50,7 +50,7 @@ BytesWritten = (i : ℕ) (x : Bytes) (b : Lent) → shaped x ≡ true → Has i 
 abbrev pub BytesOfOthers : Type 0
 BytesOfOthers = (i : ℕ) (x : Bytes) (b : Lent) → shaped x ≡ true → Has i b → (j : ℕ) → ¬ (j ≡ i) → bytesOf j (withBytes i x b) ≡ bytesOf j b
 
--- the bytes of a stock mean one stock, that which is read of them
+-- the bytes of a stock mean exactly one stock: the one that is read from them
 abbrev pub OneMeaning : Type 0
 OneMeaning = (i : ℕ) (b : Lent) (h : Whole) → Means i b h ↔ (h ≡ view (bytesOf i b))
 
@@ -60,13 +60,13 @@ LayoutIs = (hs : List Whole) → Every (λ h. length (h .window) ≤ 512) hs →
 
 -- ------------------------------------------------------------------ calls on any bytes
 
--- of a stock that there is, the answer `own`; 1 for the shape and 3 for a stock that there is not, with zeros beside it
+-- the answer is `own` for a stock of the book; it is 1 for a wrong shape and 3 for an unknown stock, with zeros beside it
 pub record AnsweredBy {A : Type 0} (i : ℕ) (b : Lent) (r own : A) (beside : ℕ → A) : Type 0 where
   pub there : InShape b → i < length (b .records) → r ≡ own
   pub no-shape : ¬ InShape b → r ≡ beside 1
   pub no-stock : InShape b → length (b .records) ≤ i → r ≡ beside 3
 
--- the answer is the rules' of what the bytes mean, and then they mean what the rules leave
+-- the answer is the rules' answer for the stock that the bytes mean, and the new bytes mean the stock that the rules leave
 abbrev pub ToldByTheRules : Type 0
 ToldByTheRules = (i : ℕ) (m : Message) (b : Lent) (r : Answer) (b′ : Lent) (h : Whole) → TellsIn i m b r b′ → Means i b h
     → AnsweredBy i b r (tellAnswer m h) zeros × (InShape b → i < length (b .records) → Means i b′ (afterTelling m h))
@@ -78,19 +78,22 @@ SettledByTheRules = (i time : ℕ) (b : Lent) (r : Notice) (b′ : Lent) (h : Wh
 abbrev pub ReadByTheRules : Type 0
 ReadByTheRules = (i : ℕ) (b : Lent) (h : Whole) → Means i b h → AnsweredBy i b (readingIn i b) (readAnswer h) zeros
 
--- a step that leaves its stock's bytes leaves the book
+abbrev pub NextByTheRules : Type 0
+NextByTheRules = (i : ℕ) (b : Lent) (h : Whole) → Means i b h → AnsweredBy i b (comingIn i b) (nextAnswer h) noneComing
+
+-- a step that does not change its stock's bytes does not change the book
 abbrev pub CallLeaves : Type 1
 CallLeaves = (A : Type 0) (i : ℕ) (step : Bytes → Outcome A) (beside : ℕ → A) (b : Lent)
     → (callNumber i b ≡ 0 → step (bytesOf i b) .bytes ≡ bytesOf i b) → calling i step beside b .book ≡ b
 
--- every number but 0 leaves every byte as it stood
+-- a call that is not answered 0 changes no byte
 abbrev pub ToldRefused : Type 0
 ToldRefused = (i : ℕ) (m : Message) (b : Lent) (r : Answer) (b′ : Lent) → TellsIn i m b r b′ → ¬ (r .number ≡ 0) → b′ ≡ b
 
 abbrev pub SettledRefused : Type 0
 SettledRefused = (i time : ℕ) (b : Lent) (r : Notice) (b′ : Lent) → SettlesIn i time b r b′ → ¬ (r .answer .number ≡ 0) → b′ ≡ b
 
--- what a call on stock i leaves: its own bytes as its step leaves them, every other stock's as they were, and as many records and places
+-- a call on stock i writes the bytes that its step gives, keeps those of every other stock, and keeps the number of records and places
 pub record Touched (i : ℕ) (next : Bytes) (b b′ : Lent) : Type 0 where
   pub own : callNumber i b ≡ 0 → bytesOf i b′ ≡ next
   pub others : (j : ℕ) → ¬ (j ≡ i) → bytesOf j b′ ≡ bytesOf j b
@@ -108,23 +111,23 @@ SettledTouches = (i time : ℕ) (b : Lent) (r : Notice) (b′ : Lent) → Settle
 
 -- ------------------------------------------------------------------ setup
 
--- of a list that has four numbers for each of some stocks: the rules' answer
+-- a list of four numbers for each of some stocks gets the rules' answer
 abbrev pub SetUpByTheRules : Type 0
 SetUpByTheRules = (end : ℕ) (list : List ℕ) (b b′ : Lent) (r : Answer) → SetsUp end list b r b′ → (stocks : ℕ) → length list ≡ 4 * stocks
     → r ≡ setupAnswer (length (b .records)) (length (b .times)) (length (b .prices)) end (setupsOf list)
 
--- of another list: 1 with zeros beside it
+-- any other list is answered 1 with zeros
 abbrev pub SetUpOne : Type 0
 SetUpOne = (end : ℕ) (list : List ℕ) (b b′ : Lent) (r : Answer) → SetsUp end list b r b′ → ¬ ((stocks : ℕ) × (length list ≡ 4 * stocks))
     → r ≡ zeros 1
 
--- where it is done, there are as many stocks as before, each as its own four numbers start it, and every place is 0
+-- an accepted setup keeps the number of stocks, starts each from its own four numbers, and sets every place to 0
 abbrev pub SetUpStarts : Type 0
 SetUpStarts = (end : ℕ) (list : List ℕ) (b b′ : Lent) (r : Answer) → SetsUp end list b r b′ → r .number ≡ 0
     → (length (b′ .records) ≡ length (b .records))
     × ((i : ℕ) → i < length (b .records) → Means i b′ (fresh end (setupIn list i)) × UnusedAre0 i b′)
 
--- every number but 0 leaves every byte as it stood
+-- a setup that is not answered 0 changes no byte
 abbrev pub SetUpRefused : Type 0
 SetUpRefused = (end : ℕ) (list : List ℕ) (b b′ : Lent) (r : Answer) → SetsUp end list b r b′ → ¬ (r .number ≡ 0) → b′ ≡ b
 
@@ -140,6 +143,7 @@ pub record Laws : Type 1 where
   pub told-by-the-rules : ToldByTheRules
   pub settled-by-the-rules : SettledByTheRules
   pub read-by-the-rules : ReadByTheRules
+  pub next-by-the-rules : NextByTheRules
   pub call-leaves : CallLeaves
   pub told-refused : ToldRefused
   pub settled-refused : SettledRefused
@@ -153,4 +157,5 @@ pub record Laws : Type 1 where
   pub tell-determined : (i : ℕ) (m : Message) (b : Lent) → Determines (λ (x : Given Answer). TellsIn i m b (x .answer) (x .book))
   pub settle-determined : (i time : ℕ) (b : Lent) → Determines (λ (x : Given Notice). SettlesIn i time b (x .answer) (x .book))
   pub read-determined : (i : ℕ) (b : Lent) → Determines (λ (r : Answer). r ≡ readingIn i b)
+  pub next-determined : (i : ℕ) (b : Lent) → Determines (λ (u : Upcoming). u ≡ comingIn i b)
   pub setup-determined : (end : ℕ) (list : List ℕ) (b : Lent) → Determines (λ (x : Given Answer). SetsUp end list b (x .answer) (x .book))

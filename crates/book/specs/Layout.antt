@@ -15,6 +15,6 @@ empty = replicate 512 0
 abbrev pub stockBytes : Whole → Bytes
 stockBytes h = lay h (bytes (record { stock = h .stock; count = 0 }) empty empty)
 
--- a book's: stock after stock
+-- a book's bytes: stock after stock
 abbrev pub layout : List Whole → Lent
 layout hs = lent (map (λ h. stockBytes h .kept) hs) (flatten (map (λ h. stockBytes h .times) hs)) (flatten (map (λ h. stockBytes h .prices) hs))

@@ -7,14 +7,15 @@ use lib.Dec.{eqb}
 use lib.ListN.{length, getD, set}
 use Rattle.forms.specs.Choice.{if_then_else_}
 use Rattle.forms.specs.Checks.{first}
-use Rattle.rules.specs.Numbers.{callChecks, zeros}
+use Rattle.rules.specs.Numbers.{callChecks, zeros, noneComing, noNotice}
 use Rattle.rules.specs.Book.{blank}
 use Rattle.rules.specs.declared.Answer.{Answer}
 use Rattle.rules.specs.declared.Message.{Message}
 use Rattle.rules.specs.declared.Notice.{Notice}
-use Rattle.stock.specs.View.{Bytes, bytes, Outcome, telling, settling, reading}
+use Rattle.rules.specs.declared.Upcoming.{Upcoming}
+use Rattle.stock.specs.View.{Bytes, bytes, Outcome, telling, settling, reading, coming}
 use Rattle.stock.specs.declared.Record.{Record}
-use Rattle.calls.specs.Parts.{part, put, noNotice}
+use Rattle.calls.specs.Parts.{part, put}
 
 -- ------------------------------------------------------------------ the bytes of a book
 
@@ -27,7 +28,7 @@ pub record Lent : Type 0 where
 abbrev pub lent : List Record → List ℕ → List ℕ → Lent
 lent records times prices = record { records = records; times = times; prices = prices }
 
--- what is said to stand past the end of the records; no call that is done reads it
+-- the record that is read past the end of the records; no accepted call reads it
 abbrev pub noRecord : Record
 noRecord = record { stock = blank 0 .stock; count = 0 }
 
@@ -64,6 +65,14 @@ TellsIn i m b r b′ = _≡_ {A = Given Answer} (record { answer = r; book = b�
 abbrev pub SettlesIn : ℕ → ℕ → Lent → Notice → Lent → Type 0
 SettlesIn i time b r b′ = _≡_ {A = Given Notice} (record { answer = r; book = b′ }) (calling i (settling time) noNotice b)
 
--- what reading stock i gives: what its bytes give, or a number with zeros beside it
-unfoldable pub readingIn : ℕ → Lent → Answer
-readingIn i b = if eqb (callNumber i b) 0 then reading (bytesOf i b) else zeros (callNumber i b)
+-- a call on stock i that changes nothing: what its bytes give, or a number with zeros beside it
+unfoldable pub asking : {A : Type 0} → ℕ → (Bytes → A) → (ℕ → A) → Lent → A
+asking i given beside b = if eqb (callNumber i b) 0 then given (bytesOf i b) else beside (callNumber i b)
+
+-- the answer to reading stock i
+abbrev pub readingIn : ℕ → Lent → Answer
+readingIn i b = asking i reading zeros b
+
+-- the answer to asking what comes next of stock i
+abbrev pub comingIn : ℕ → Lent → Upcoming
+comingIn i b = asking i coming noneComing b

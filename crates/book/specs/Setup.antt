@@ -8,16 +8,17 @@ use lib.ListN.{length}
 use Rattle.forms.specs.Choice.{if_then_else_}
 use Rattle.rules.specs.Numbers.{zeros}
 use Rattle.rules.specs.declared.Answer.{Answer}
-use Rattle.calls.specs.Setup.{setupsOf, recordOf, setupNumber, wiped}
+use Rattle.window.specs.Places.{wiped}
+use Rattle.calls.specs.Setup.{setupsOf, recordOf, setupNumber}
 use Rattle.book.specs.Lent.{Lent, lent, Given}
 
 -- ------------------------------------------------------------------ what a setup gives and leaves
 
--- the number that a setup of this book is answered
+-- the number that answers a setup of this book
 abbrev pub numberOf : ℕ → List ℕ → Lent → ℕ
 numberOf end list b = setupNumber (length (b .records)) (length (b .times)) (length (b .prices)) end list
 
--- every record is made anew and every place 0, or every byte is as it was; zeros beside the number
+-- either every record is written from its setup and every place is 0, or every byte is as it was; the answer is the number with zeros
 unfoldable pub setting : ℕ → List ℕ → Lent → Given Answer
 setting end list b = record {
   answer = zeros (numberOf end list b);

@@ -20,7 +20,7 @@ use Rattle.book.specs.Lent.{Lent, noRecord}
 abbrev pub recordAt : ℕ → Lent → Record
 recordAt i b = getD (b .records) i noRecord
 
--- in place j of stock i, which is entry 512 i + j of each array, stand this time and this price
+-- place j of stock i, which is entry 512 i + j of each array, has this time and this price
 abbrev pub InPlace : ℕ → ℕ → Lent → (time price : ℕ) → Type 0
 InPlace i j b time price = time ≡ getD (b .times) (512 * i + j) 0 and price ≡ getD (b .prices) (512 * i + j) 0
 
@@ -54,10 +54,10 @@ pub record LaidOut (hs : List Whole) (b : Lent) : Type 0 where
 abbrev pub InShape : Lent → Type 0
 InShape b = IsShape (length (b .records)) (length (b .times)) (length (b .prices))
 
--- a call on stock i: 1 for the shape, 3 for a stock that there is not, and then those of the stock
+-- the numbers of a call on stock i: 1 for a wrong shape, 3 for an unknown stock, and then those of the stock
 abbrev pub callTable : ℕ → Lent → List Number → List Number
 callTable i b own = bookRefusals (length (b .records)) (length (b .times)) (length (b .prices)) i own
 
--- a setup: 1 for the shape and for a list that has not four numbers for each stock; 2 for E or a stock's setup out of range
+-- the numbers of a setup: 1 for a wrong shape and for a list that does not have four numbers for each stock; 2 for an E or a setup out of range
 abbrev pub setupTable : ℕ → List ℕ → Lent → List Number
 setupTable end list b = setupRefusals (length (b .records)) (length (b .times)) (length (b .prices)) end list

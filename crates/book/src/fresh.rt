@@ -6,7 +6,7 @@ ghost use lib.ListN.{length};
 ghost use Rattle.calls.specs.Setup.{setupsOf, recordOf};
 use stock::Record;
 
-// Makes every record anew.
+// Writes every record as its setup in the list starts it.
 pub(crate) fn fill(book: &mut [Record], list: &[u32], end: u32)
     requires { ⌜ length (now list) ≡ 4 * length (now book) ⌝ }
     ensures { λ r. ⌜ now (book .exit) ≡ map (recordOf end) (setupsOf (now (list .entry))) ⌝ }

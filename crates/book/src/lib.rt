@@ -1,13 +1,15 @@
-// The book: the caller's array of stock records beside two whole arrays of trade times and trade prices, of
-// which each stock owns 512 places. Functions over one lent record with its two parts stand first. No public
-// function has a `requires`: for any bytes the promise gives the answer, and every byte of what is lent.
+// The book: the caller lends an array of stock records and two arrays, trade times and trade prices, in which each
+// stock owns 512 places. `tell_one` and `settle_one` take one record with its part of both arrays instead. No
+// public function has a `requires`: for any bytes the promise gives the answer and every byte that the call leaves.
 ghost use mathlib.Core.Path.{_≡_};
 ghost use Rattle.stock.specs.View.{bytes, Tells, Settles};
-ghost use Rattle.book.specs.Lent.{lent, TellsIn, SettlesIn, readingIn};
+ghost use Rattle.book.specs.Lent.{lent, TellsIn, SettlesIn, readingIn, comingIn};
 ghost use Rattle.book.specs.Setup.{SetsUp};
 use rules::Answer;
+use rules::DONE;
 use rules::Message;
 use rules::Notice;
+use rules::Upcoming;
 use stock::Record;
 
 mod fresh;
@@ -30,8 +32,8 @@ pub fn settle_one(r: &mut Record, times: &mut [u32], prices: &mut [u32], time: u
     d.notice
 }
 
-// Sets up every stock: each record is made of four numbers of the list, tier, leverage, primary and close,
-// and every place is made 0.
+// Sets up every stock: writes its record from its four numbers of the list (tier, leverage, primary, close), and
+// sets every place to 0.
 pub fn setup(
     book: &mut [Record],
     times: &mut [u32],
@@ -42,12 +44,12 @@ pub fn setup(
     ensures { λ r. ⌜ SetsUp end (now (setups .entry)) (lent (now (book .entry)) (now (times .entry)) (now (prices .entry))) r (lent (now (book .exit)) (now (times .exit)) (now (prices .exit))) ⌝ }
 {
     let answer = calls::setup_answer(book.len(), times.len(), prices.len(), end, setups);
-    if answer.number != 0 {
+    if answer.number != DONE {
         return answer;
     }
     fresh::fill(book, setups, end);
-    calls::wipe(times);
-    calls::wipe(prices);
+    window::wipe(times);
+    window::wipe(prices);
     answer
 }
 
@@ -63,12 +65,12 @@ pub fn tell(
 {
     let i = stock as usize;
     let number = calls::call_number(book.len(), times.len(), prices.len(), i);
-    if number != 0 {
-        return calls::zeros(number);
+    if number != DONE {
+        return stock::zeros(number);
     }
     let d = calls::told_at(book[i], times, prices, stock, message);
     let answer = d.answer;
-    if answer.number != 0 {
+    if answer.number != DONE {
         return answer;
     }
     book[i] = d.next;
@@ -87,12 +89,12 @@ pub fn settle(
 {
     let i = stock as usize;
     let number = calls::call_number(book.len(), times.len(), prices.len(), i);
-    if number != 0 {
-        return calls::zero_notice(number);
+    if number != DONE {
+        return stock::zero_notice(number);
     }
     let d = calls::settled_at(book[i], times, prices, stock, time);
     let notice = d.notice;
-    if notice.answer.number != 0 {
+    if notice.answer.number != DONE {
         return notice;
     }
     book[i] = d.next;
@@ -105,8 +107,20 @@ pub fn read(book: &[Record], times: &[u32], prices: &[u32], stock: u32) -> Answe
 {
     let i = stock as usize;
     let number = calls::call_number(book.len(), times.len(), prices.len(), i);
-    if number != 0 {
-        return calls::zeros(number);
+    if number != DONE {
+        return stock::zeros(number);
     }
     calls::read_at(book[i], times, prices, stock)
+}
+
+// Gives the earliest moment still to come of a stock of the lent book, and changes nothing.
+pub fn next(book: &[Record], times: &[u32], prices: &[u32], stock: u32) -> Upcoming
+    ensures { λ x. ⌜ x ≡ comingIn stock (lent (now (book .entry)) (now (times .entry)) (now (prices .entry))) ⌝ }
+{
+    let i = stock as usize;
+    let number = calls::call_number(book.len(), times.len(), prices.len(), i);
+    if number != DONE {
+        return stock::none_coming(number);
+    }
+    calls::next_at(book[i], times, prices, stock)
 }

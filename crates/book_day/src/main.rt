@@ -3,14 +3,16 @@
 // a line for each stock's record: the records of both days agree.
 use rules::Answer;
 use rules::Course;
+use rules::DONE;
 use rules::Message;
+use rules::PLACES;
 use rules::Setup;
 use stock::Record;
 
-// How many of the eight records are the book.
+// How many of the eight records the book uses.
 const STOCKS: usize = 3;
 
-// What both days settle to.
+// The time that both days settle to.
 const SETTLED: u32 = 302_000;
 
 fn print_number(n: u64) {
@@ -18,20 +20,19 @@ fn print_number(n: u64) {
     io::print_decimal(1, n);
 }
 
-// stock, time, mark or letter, answer, state, reference, lower, upper, bid, flag, offer, flag
-fn print_line(stock: u32, time: u64, letter: u8, a: Answer) {
-    let bands = a.bands;
+// Prints one line in the format of the day program.
+fn print_line(stock: u32, time: u32, letter: u8, a: Answer) {
     let bid = a.best.bid;
     let offer = a.best.offer;
     let text = [b' ', letter];
     io::print_decimal(1, stock as u64);
-    print_number(time);
+    print_number(time as u64);
     io::write_all(1, &text);
     print_number(a.number as u64);
     print_number(a.state as u64);
     print_number(a.reference as u64);
-    print_number(bands.lower);
-    print_number(bands.upper);
+    print_number(a.lower as u64);
+    print_number(a.upper as u64);
     print_number(bid.price as u64);
     print_number(bid.flag as u64);
     print_number(offer.price as u64);
@@ -60,7 +61,7 @@ fn print_course(c: Course) {
     print_number(c.pause as u64);
 }
 
-// Every number of a record, in the order in which they stand.
+// Prints every number of a record, in the order of its fields.
 fn print_record(r: Record) {
     let s = r.stock;
     let reference = s.reference;
@@ -89,8 +90,8 @@ fn print_records(book: [Record; 8]) {
     print_record(c);
 }
 
-// The calls by number: 0 to 2 open the stocks, 3 to 5 are their quotes, 6 to 8 their trades, and the others are
-// refused: no such stock, no such participant, no price.
+// The calls by number: 0 to 2 open the stocks, 3 to 5 are their quotes, 6 to 8 their trades. The others are
+// refused, for an unknown stock, an unknown participant and price 0.
 fn stock_of(call: u32) -> u32 {
     if call == 9 {
         return 3;
@@ -173,11 +174,10 @@ fn settled(
         let done = shelf::settle(next, STOCKS, times, prices, stock, time);
         let notice = done.notice;
         let answer = notice.answer;
-        if answer.number != 0 {
+        if answer.number != DONE {
             return next;
         }
-        let moment = notice.moment;
-        print_line(stock, moment.time, (moment.mark % 256) as u8, answer);
+        print_line(stock, notice.time, (notice.mark % 256) as u8, answer);
         next = done.book;
     }
     next
@@ -190,7 +190,7 @@ fn told(book: [Record; 8], times: &mut [u32], prices: &mut [u32], call: u32) -> 
     let message = message_of(call);
     let before = settled(book, times, prices, stock, time);
     let done = shelf::tell(before, STOCKS, times, prices, stock, message);
-    print_line(stock, time as u64, letter_of(call), done.answer);
+    print_line(stock, time, letter_of(call), done.answer);
     done.book
 }
 
@@ -222,7 +222,7 @@ fn settled_all(
     next
 }
 
-// Tells the stocks the calls and settles them, each in an order.
+// Makes the calls and then settles the stocks, each in the given order.
 fn played(
     book: [Record; 8],
     times: &mut [u32],
@@ -234,10 +234,10 @@ fn played(
     settled_all(told, times, prices, stocks)
 }
 
-// A day from the setup to the records.
+// Plays one day, from the setup to the printed records.
 fn day(calls: &[u32], stocks: &[u32]) {
-    let mut t = [0u32; 1536];
-    let mut p = [0u32; 1536];
+    let mut t = [0u32; STOCKS * PLACES];
+    let mut p = [0u32; STOCKS * PLACES];
     let setups = [1, 1, 0, 100_000, 2, 1, 1, 110_000, 2, 3, 2, 120_000];
     let start = shelf::blank();
     let done = shelf::setup(start, STOCKS, &mut t, &mut p, 23_400_000, &setups);

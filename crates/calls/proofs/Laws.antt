@@ -2,24 +2,20 @@
 -- Assumes nothing.
 use Prim.Native.Nat.{ℕ}
 use mathlib.Core.List.{List}
-use mathlib.Core.Path.{_≡_, refl, sym, _∙_}
+use mathlib.Core.Path.{_≡_, sym, _∙_}
 use lib.ListN.{getD}
 use Rattle.forms.specs.Checks.{first}
 use Rattle.forms.proofs.Promises.{agree}
 use Rattle.rules.specs.Book.{noSetup}
 use Rattle.rules.specs.Numbers.{callChecks, zeros}
-use Rattle.rules.proofs.Answers.{nothing-shown}
-use Rattle.stock.specs.View.{bytes, Outcome, reading}
+use Rattle.stock.specs.View.{bytes, Outcome, reading, coming}
 use Rattle.stock.specs.declared.Record.{Record}
-use Rattle.calls.specs.Parts.{part, noNotice, Placed}
-use Rattle.calls.specs.Setup.{setupsOf, recordOf, setupNumber, wiped}
-use Rattle.calls.specs.Laws.{NoNoticeIs, Laws}
+use Rattle.calls.specs.Parts.{part, Placed}
+use Rattle.calls.specs.Setup.{setupsOf, recordOf, setupNumber}
+use Rattle.calls.specs.Laws.{Laws}
 use Rattle.calls.proofs.Parts.{part-is, part-put, part-put-other, put-part, length-put}
 use Rattle.calls.proofs.Setups.{setups-are}
 use Rattle.calls.proofs.InWords.{setup-number-is}
-
-no-notice-is : NoNoticeIs
-no-notice-is number = (refl, (nothing-shown number (zeros number) refl, (refl, refl)))
 
 pub laws : Laws
 laws = record {
@@ -28,16 +24,13 @@ laws = record {
   part-put-other = λ i new xs f. part-put-other i new xs (f .places) (f .room);
   put-part = put-part;
   length-put = λ i new xs f. length-put i new xs (f .places) (f .room);
-  no-notice-is = no-notice-is;
   setups-are = setups-are;
   setup-number-is = setup-number-is;
   call-number-determined = λ stocks times prices i. agree (first (callChecks stocks times prices i));
-  zeros-determined = λ number. agree (zeros number);
-  zero-notice-determined = λ number. agree (noNotice number);
   told-at-determined = λ i m r ts ps x y p q. rw (p .answer ∙ sym (q .answer), p .next ∙ sym (q .next), p .times ∙ sym (q .times), p .prices ∙ sym (q .prices));
   settled-at-determined = λ i time r ts ps x y p q. rw (p .answer ∙ sym (q .answer), p .next ∙ sym (q .next), p .times ∙ sym (q .times), p .prices ∙ sym (q .prices));
   read-at-determined = λ i r ts ps. agree (reading (bytes r (part i ts) (part i ps)));
+  next-at-determined = λ i r ts ps. agree (coming (bytes r (part i ts) (part i ps)));
   setup-answer-determined = λ stocks times prices end list. agree (zeros (setupNumber stocks times prices end list));
   started-at-determined = λ list end i. agree (recordOf end (getD (setupsOf list) i noSetup));
-  wipe-determined = λ xs. agree (wiped xs);
 }

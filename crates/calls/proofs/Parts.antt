@@ -14,16 +14,17 @@ use lib.Seq.{length-take-le, getD-take, getD-drop, drop-drop, take-at, drop-at, 
 use Rattle.forms.specs.Choice.{anyOf}
 use Rattle.forms.proofs.Bools.{or-any}
 use Rattle.forms.proofs.Choice.{if-false, any-head, any-tail}
-use Rattle.rules.specs.Numbers.{zeros}
+use Rattle.rules.specs.Numbers.{zeros, noneComing, noNotice}
 use Rattle.rules.specs.declared.Answer.{Answer}
 use Rattle.rules.specs.declared.Message.{Message}
 use Rattle.rules.specs.declared.Notice.{Notice}
-use Rattle.stock.specs.View.{Bytes, bytes, shaped, Outcome, telling, settling, reading, Tells, Settles}
+use Rattle.rules.specs.declared.Upcoming.{Upcoming}
+use Rattle.stock.specs.View.{Bytes, bytes, shaped, Outcome, telling, settling, reading, coming, Tells, Settles}
 use Rattle.stock.proofs.Laws as stock
 use Rattle.stock.specs.declared.Record.{Record}
 use Rattle.stock.specs.declared.Told.{Told}
 use Rattle.stock.specs.declared.Settled.{Settled}
-use Rattle.calls.specs.Parts.{part, put, Placed, ToldAt, SettledAt, noNotice}
+use Rattle.calls.specs.Parts.{part, put, Placed, ToldAt, SettledAt}
 use Rattle.calls.specs.Laws.{PartIs}
 
 -- ------------------------------------------------------------------ the places of a part
@@ -111,6 +112,9 @@ module _ (i s : ℕ) (start : s ≡ 512 * i) where
   pub read-of-part : (r : Record) (ts ps : List ℕ) (a : Answer) → a ≡ reading (bytes r (lent-part s ts) (lent-part s ps)) → a ≡ reading (bytes r (part i ts) (part i ps))
   read-of-part = of-part reading
 
+  pub next-of-part : (r : Record) (ts ps : List ℕ) (u : Upcoming) → u ≡ coming (bytes r (lent-part s ts) (lent-part s ps)) → u ≡ coming (bytes r (part i ts) (part i ps))
+  next-of-part = of-part coming
+
   module _ (r : Record) (ts ps us qs : List ℕ) where
     pub told-placed : (m : Message) (x : Told) → Tells m (bytes r (lent-part s ts) (lent-part s ps)) x us qs
         → ToldAt i m r ts ps x (part-back s ts us) (part-back s ps qs)
@@ -177,3 +181,6 @@ module _ (i : ℕ) (r : Record) (ts ps : List ℕ) (short : Bool) (of : Short i 
 
   pub unread : (a : Answer) → a ≡ zeros 1 → a ≡ reading own
   unread a e = e ∙ sym (stock.laws .read-by-the-rules own .1 unshaped)
+
+  pub none-next : (u : Upcoming) → u ≡ noneComing 1 → u ≡ coming own
+  none-next u e = e ∙ sym (stock.laws .next-by-the-rules own .1 unshaped)

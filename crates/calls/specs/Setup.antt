@@ -1,11 +1,11 @@
--- What a setup makes of its list: a record for each four numbers, and the number that it is answered (document 01, "What the book holds",
+-- What a setup makes of its list: a record for each four numbers, and the number of its answer (document 01, "What the book holds",
 -- "Numbers given back").
 -- Assumes nothing.
 use Prim.Native.Nat.{ℕ, _*_}
 use mathlib.Core.Bool.{not}
 use mathlib.Core.List.{List, [], _∷_}
 use lib.Dec.{eqb}
-use lib.ListN.{length, replicate}
+use lib.ListN.{length}
 use Rattle.forms.specs.Checks.{first}
 use Rattle.forms.specs.Checks.Check.{_when_}
 use Rattle.rules.specs.Numbers.{fresh, setupChecks}
@@ -25,12 +25,8 @@ setupsOf (_ ∷ _ ∷ _ ∷ []) = []
 abbrev pub recordOf : ℕ → Setup → Record
 recordOf end u = record { stock = fresh end u .stock; count = 0 }
 
--- the number: 1 where numbers are left over, else what the rules give
+-- the number of a setup: 1 where the list's length is no multiple of four, else what the rules give
 unfoldable pub setupNumber : ℕ → ℕ → ℕ → ℕ → List ℕ → ℕ
 setupNumber stocks times prices end list = first (
     1 when not (eqb (length list) (4 * length (setupsOf list))) ∷
     setupChecks stocks times prices end (setupsOf list))
-
--- as many places, each of them 0
-abbrev pub wiped : List ℕ → List ℕ
-wiped xs = replicate (length xs) 0

@@ -19,7 +19,7 @@ setupIn list i = record {
   close = getD list (4 * i + 3) 0;
 }
 
--- 1 for the shape and for a list that has not four numbers for each stock; 2 for E or a stock's setup out of range
+-- the numbers of a setup: 1 for a wrong shape and for a list that does not have four numbers for each stock; 2 for an E or a setup out of range
 abbrev pub setupRefusals : ℕ → ℕ → ℕ → ℕ → List ℕ → List Number
 setupRefusals stocks times prices end list =
     1 for (¬ IsShape stocks times prices or ¬ (length list ≡ 4 * stocks)) ∷

@@ -1,21 +1,21 @@
-// What the calls on a book are made of, each with one record by value: the first checks of a call, the zeros
-// beside a number, the step of one stock in its part of both arrays, and the parts of a setup. No public function
-// has a `requires`: of a stock whose part is not in the arrays the step gives 1 with zeros, and changes nothing.
+// The building blocks of the calls on a book, over one record by value: the first checks of a call, the step of one
+// stock in its part of both arrays, and the parts of a setup. No public function has a `requires`: where an array
+// is too short for the stock's part, a step gives 1 with zeros and changes nothing.
 ghost use mathlib.Core.Path.{_≡_};
 ghost use lib.ListN.{getD};
 ghost use Rattle.forms.specs.Checks.{first};
 ghost use Rattle.rules.specs.Book.{noSetup};
 ghost use Rattle.rules.specs.Numbers.{callChecks, zeros};
-ghost use Rattle.stock.specs.View.{bytes, reading};
-ghost use Rattle.calls.specs.Parts.{part, noNotice, ToldAt, SettledAt};
-ghost use Rattle.calls.specs.Setup.{setupsOf, recordOf, setupNumber, wiped};
-use band::Limits;
+ghost use Rattle.stock.specs.View.{bytes, reading, coming};
+ghost use Rattle.calls.specs.Parts.{part, ToldAt, SettledAt};
+ghost use Rattle.calls.specs.Setup.{setupsOf, recordOf, setupNumber};
 use rules::Answer;
-use rules::Best;
+use rules::DONE;
 use rules::Message;
-use rules::Moment;
-use rules::Notice;
-use rules::Side;
+use rules::NO_STOCK;
+use rules::PLACES;
+use rules::RUBBISH;
+use rules::Upcoming;
 use stock::Record;
 use stock::Settled;
 use stock::Told;
@@ -23,65 +23,38 @@ use stock::Told;
 mod list;
 mod shape;
 
-// The number that the first checks of a call give: the shape of the book, then the number of the stock.
+// The number that the first checks of a call give: they check the shape of the book, then the number of the stock.
 pub fn call_number(stocks: usize, times: usize, prices: usize, i: usize) -> u32
     ensures { λ n. ⌜ n ≡ first (callChecks stocks times prices i) ⌝ }
 {
     let bad = shape::bad_shape(stocks, times, prices);
     if bad {
-        return 1;
+        return RUBBISH;
     }
     if stocks <= i {
-        return 3;
+        return NO_STOCK;
     }
-    0
+    DONE
 }
 
-// A number with zeros beside it.
-pub fn zeros(number: u32) -> Answer
-    ensures { λ x. ⌜ x ≡ zeros number ⌝ }
-{
-    let none = Side { price: 0, flag: 0 };
-    Answer {
-        number,
-        state: 0,
-        reference: 0,
-        bands: Limits { lower: 0, upper: 0 },
-        best: Best {
-            bid: none,
-            offer: none,
-        },
-    }
-}
-
-// The same with no moment.
-pub fn zero_notice(number: u32) -> Notice
-    ensures { λ x. ⌜ x ≡ noNotice number ⌝ }
-{
-    let answer = zeros(number);
-    Notice {
-        answer,
-        moment: Moment { mark: 0, time: 0 },
-    }
-}
-
-// Tells the record of a stock a message: its 512 places of each array are lent to it. Where an array ends before
-// them, 1 with zeros.
+// Tells one stock a message, in its 512 places of each array; gives 1 with zeros where an array is too short for
+// them.
 pub fn told_at(r: Record, times: &mut [u32], prices: &mut [u32], stock: u32, m: Message) -> Told
     ensures { λ x. ⌜ ToldAt stock m r (now (times .entry)) (now (prices .entry)) x (now (times .exit)) (now (prices .exit)) ⌝ }
 {
     if shape::is_short(times.len(), prices.len(), stock) {
         return Told {
-            answer: zeros(1),
+            answer: stock::zeros(RUBBISH),
             next: r,
         };
     }
     let from = shape::start_of(stock);
-    let to = from + 512;
+    let to = from + PLACES;
     r.tell(&mut times[from..to], &mut prices[from..to], m)
 }
 
-// Settles it to a time, likewise.
+// Settles one stock to a time, in its 512 places of each array; gives 1 with zeros where an array is too short for
+// them.
 pub fn settled_at(
     r: Record,
     times: &mut [u32],
@@ -93,48 +66,53 @@ pub fn settled_at(
 {
     if shape::is_short(times.len(), prices.len(), stock) {
         return Settled {
-            notice: zero_notice(1),
+            notice: stock::zero_notice(RUBBISH),
             next: r,
         };
     }
     let from = shape::start_of(stock);
-    let to = from + 512;
+    let to = from + PLACES;
     r.settle(&mut times[from..to], &mut prices[from..to], time)
 }
 
-// What it shows, with its places lent to be read, likewise.
+// Reads what one stock shows; gives 1 with zeros where an array is too short for its 512 places.
 pub fn read_at(r: Record, times: &[u32], prices: &[u32], stock: u32) -> Answer
     ensures { λ x. ⌜ x ≡ reading (bytes r (part stock (now (times .entry))) (part stock (now (prices .entry)))) ⌝ }
 {
     if shape::is_short(times.len(), prices.len(), stock) {
-        return zeros(1);
+        return stock::zeros(RUBBISH);
     }
     let from = shape::start_of(stock);
-    let to = from + 512;
+    let to = from + PLACES;
     r.read(&times[from..to], &prices[from..to])
 }
 
-// What a setup is answered; its number is 0 where it is to be done.
+// Gives one stock's earliest moment still to come; gives 1 with none where an array is too short for its 512
+// places.
+pub fn next_at(r: Record, times: &[u32], prices: &[u32], stock: u32) -> Upcoming
+    ensures { λ x. ⌜ x ≡ coming (bytes r (part stock (now (times .entry))) (part stock (now (prices .entry)))) ⌝ }
+{
+    if shape::is_short(times.len(), prices.len(), stock) {
+        return stock::none_coming(RUBBISH);
+    }
+    let from = shape::start_of(stock);
+    let to = from + PLACES;
+    r.next(&times[from..to], &prices[from..to])
+}
+
+// The answer of a setup; number 0 means that the caller is to carry it out.
 pub fn setup_answer(stocks: usize, times: usize, prices: usize, end: u32, list: &[u32]) -> Answer
     ensures { λ r. ⌜ r ≡ zeros (setupNumber stocks times prices end (now (list .entry))) ⌝ }
 {
     let number = list::number_of(stocks, times, prices, end, list);
-    zeros(number)
+    stock::zeros(number)
 }
 
-// The record that the setup of stock i makes; where the list has none for it, of one that no call reads.
+// The record of stock i after a setup; where the list is too short, that of a placeholder setup, which no call
+// reads.
 pub fn started_at(list: &[u32], end: u32, i: usize) -> Record
     ensures { λ r. ⌜ r ≡ recordOf end (getD (setupsOf (now (list .entry))) i noSetup) ⌝ }
 {
     let setup = list::setup_at(list, i);
     list::started(setup, end)
-}
-
-// Makes every place 0.
-pub fn wipe(xs: &mut [u32])
-    ensures { λ _. ⌜ now (xs .exit) ≡ wiped (now (xs .entry)) ⌝ }
-{
-    for i in 0..xs.len() {
-        xs[i] = 0;
-    }
 }

@@ -8,20 +8,24 @@ ghost use Rattle.rules.specs.Book.{noSetup};
 ghost use Rattle.rules.specs.Numbers.{orBadSetup};
 ghost use Rattle.calls.specs.Setup.{setupsOf, recordOf, setupNumber};
 use crate::shape;
+use rules::BAD_SETUP;
 use rules::Course;
+use rules::DONE;
 use rules::Quotes;
+use rules::RUBBISH;
 use rules::Reference;
+use rules::SETUP_NUMBERS;
 use rules::Setup;
 use rules::Stock;
 use rules::WAITING;
 use stock::Record;
 
-// The setup of stock i, which the list has.
+// The setup of stock i, where the list has one.
 fn setup_of(list: &[u32], i: usize) -> Setup
     requires { ⌜ i < length (now list) / 4 ⌝ }
     ensures { λ r. ⌜ r ≡ getD (setupsOf (now (list .entry))) i noSetup ⌝ }
 {
-    let at = 4 * i;
+    let at = SETUP_NUMBERS * i;
     Setup {
         tier: list[at],
         leverage: list[at + 1],
@@ -30,11 +34,11 @@ fn setup_of(list: &[u32], i: usize) -> Setup
     }
 }
 
-// The same of any stock; where the list has no setup for it, one that no call reads.
+// The setup of any stock; where the list is too short, a placeholder that no call reads.
 pub(crate) fn setup_at(list: &[u32], i: usize) -> Setup
     ensures { λ r. ⌜ r ≡ getD (setupsOf (now (list .entry))) i noSetup ⌝ }
 {
-    if i < list.len() / 4 {
+    if i < list.len() / SETUP_NUMBERS {
         return setup_of(list, i);
     }
     Setup {
@@ -59,23 +63,23 @@ fn any_bad(list: &[u32], stocks: usize) -> bool
     bad
 }
 
-// The number that a setup is answered.
+// The number that answers a setup.
 pub(crate) fn number_of(stocks: usize, times: usize, prices: usize, end: u32, list: &[u32]) -> u32
     ensures { λ r. ⌜ r ≡ setupNumber stocks times prices end (now (list .entry)) ⌝ }
 {
     if shape::bad_shape(stocks, times, prices) {
-        return 1;
+        return RUBBISH;
     }
     let n = list.len();
-    if n != 4 * stocks {
-        return 1;
+    if n != SETUP_NUMBERS * stocks {
+        return RUBBISH;
     }
     let end_is_bad = judge::bad_end(end);
     let setup_is_bad = any_bad(list, stocks);
     if end_is_bad | setup_is_bad {
-        return 2;
+        return BAD_SETUP;
     }
-    0
+    DONE
 }
 
 // The record of a stock that is set up and holds no trade.

@@ -11,11 +11,11 @@ use Rattle.rules.specs.declared.Setup.{Setup}
 use Rattle.tape.specs.declared.Line.{Line}
 use Rattle.day.specs.declared.Contents.{Contents}
 
--- what is given of more stocks than 8
+-- the result for more than 8 stocks
 abbrev pub tooMany : Contents
 tooMany = record { good = false; stocks = 0; messages = 0; end = 0 }
 
--- "`C stocks messages E`", of 1 to 8 stocks and an E that setup takes; 67 is the code of C
+-- the line "`C stocks messages E`", with 1 to 8 stocks and an E that setup accepts; 67 is the code of C
 unfoldable pub contentsOf : Line → Contents
 contentsOf line =
     let stocks = getD (line .numbers) 0 0 in
@@ -23,11 +23,11 @@ contentsOf line =
     if ltb 8 stocks then tooMany else
     record { good = allOf (eqb (line .letter) 67 ∷ ltb 0 stocks ∷ not (badEnd end) ∷ []); stocks = stocks; messages = getD (line .numbers) 1 0; end = end }
 
--- "`S tier leverage primary close`"
+-- the setup that "`S tier leverage primary close`" says
 abbrev pub setupOf : List ℕ → Setup
 setupOf numbers = record { tier = getD numbers 0 0; leverage = getD numbers 1 0; primary = getD numbers 2 0; close = getD numbers 3 0 }
 
--- such a line, of numbers that setup takes; 83 is the code of S
+-- whether a line is such a line, with numbers that setup accepts; 83 is the code of S
 unfoldable pub isSetup : Line → Bool
 isSetup line = allOf (eqb (line .letter) 83 ∷ not (badSetup (setupOf (line .numbers))) ∷ [])
 

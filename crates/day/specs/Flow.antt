@@ -1,4 +1,4 @@
--- Where the program stands in its two blocks, and how far the day has been read.
+-- The positions in the input's and the output's block, and how far the day has been read.
 -- Assumes nothing.
 use Prim.Native.Nat.{ℕ, _+_, _-_, _≤_, _<_, min}
 use mathlib.Core.Bool.{true, false, _&&_}
@@ -12,11 +12,11 @@ use Rattle.day.specs.declared.flow.Flow.{Flow}
 use Rattle.day.specs.declared.flow.Seen.{Seen}
 use Rattle.day.specs.declared.flow.Taken.{Taken}
 
--- it stands within blocks of these lengths
+-- the positions are within blocks of these lengths
 abbrev pub Within : Flow → ℕ → ℕ → Type 0
 Within f input output = (f .from ≤ f .to) × (f .to ≤ input) × (f .at ≤ output)
 
--- it stands at the same places
+-- both flows have the same positions
 abbrev pub Same : Flow → Flow → Type 0
 Same f g = (f .from ≡ g .from) × (f .to ≡ g .to) × (f .at ≡ g .at)
 
@@ -32,23 +32,23 @@ reachOf from to = min (from + 57) to
 abbrev pub between : List ℕ → ℕ → ℕ → List ℕ
 between bytes from to = take (to - from) (drop from bytes)
 
--- what is found from a place on: the line that ends at the first line feed, and the place behind that; where no line feed is in reach, an unread line
--- and the same place
+-- the search from a place on finds the line that ends at the first line feed, and the place after that; where no line feed is in reach, it gives
+-- an unread line and the same place
 abbrev pub Sees : List ℕ → ℕ → ℕ → Seen → Type 0
 Sees bytes from to r =
     let end = from + toFeed (between bytes from (reachOf from to)) in
     (r .found ≡ true → (end < reachOf from to) × Reads (between bytes from end) (r .line) × (r .next ≡ end + 1))
     × (r .found ≡ false → (reachOf from to ≤ end) × (r .line ≡ unread) × (r .next ≡ from))
 
--- the bytes with so many of them, from a place on, moved to the front; those behind stay
+-- the bytes with so many of them, from a place on, moved to the front; the bytes after these stay
 abbrev pub lowered : List ℕ → ℕ → ℕ → List ℕ
 lowered bytes gone keep = take keep (drop gone bytes) ++ drop keep bytes
 
--- a line that was found, and the flow behind it
+-- a line that was found, and the flow after it
 abbrev pub foundOf : Line → ℕ → Flow → Taken
 foundOf line next f = record { line = line; flow = record { from = next; to = f .to; at = f .at; live = f .live } }
 
--- no line
+-- the result where no line was found
 abbrev pub missingOf : Flow → Taken
 missingOf f = record { line = unread; flow = f }
 

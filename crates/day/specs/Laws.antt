@@ -12,7 +12,6 @@ use Rattle.rules.specs.Words.{IsEnd, IsSetup}
 use Rattle.rules.specs.declared.Answer.{Answer}
 use Rattle.rules.specs.declared.Message.{Message}
 use Rattle.rules.specs.declared.Message.the-variants.{Trade, Quote, Opening, Pause, Reopening, Closing}
-use Rattle.rules.specs.declared.Moment.{Moment}
 use Rattle.tape.specs.Lines.{IsLine, lineOf, unread, Reads}
 use Rattle.tape.specs.Printing.{printed}
 use Rattle.tape.specs.declared.Line.{Line}
@@ -33,24 +32,24 @@ TextFound = (bytes text rest : List ℕ) (from to : ℕ) (r : Seen) → length t
     → drop from bytes ≡ text ++ 10 ∷ rest → from + length text < to → Sees bytes from to r
     → r .found ≡ true and Reads text (r .line) and r .next ≡ from + length text + 1
 
--- nothing is found where no line feed is among the next 57 bytes, or among all where fewer are there
+-- no line is found where no line feed is among the next 57 bytes, or among all where there are fewer
 abbrev pub NoneFound : Type 0
 NoneFound = (bytes : List ℕ) (from to : ℕ) (r : Seen) → to ≤ length bytes
     → ((j : ℕ) → j < 57 → from + j < to → ¬ (getD bytes (from + j) 0 ≡ 10)) → Sees bytes from to r
     → r .found ≡ false and r .line ≡ unread and r .next ≡ from
 
--- a line that stands there whole, with its line feed, is found, with its letter and its numbers
+-- a whole line with its line feed is found, with its letter and its numbers
 abbrev pub LineFound : Type 0
 LineFound = (bytes text rest : List ℕ) (from to letter : ℕ) (words : List (List ℕ)) (r : Seen) → IsLine text letter words
     → drop from bytes ≡ text ++ 10 ∷ rest → from + length text < to → Sees bytes from to r
     → r .found ≡ true and r .line ≡ lineOf letter words and r .next ≡ from + length text + 1
 
--- a line that was found is handed on, with the place behind it
+-- a line that was found is the result, with the place after it
 abbrev pub LineTaken : Type 0
 LineTaken = (line : Line) (next : ℕ) (f : Flow) → let t = foundOf line next f in
     t .line ≡ line and t .flow .from ≡ next and t .flow .to ≡ f .to and t .flow .at ≡ f .at and t .flow .live ≡ f .live
 
--- where there is none, what is handed on cannot be read
+-- where no line was found, the result is an unread line
 abbrev pub NoneTaken : Type 0
 NoneTaken = (f : Flow) → missingOf f .line .letter ≡ 0 and missingOf f .flow ≡ f
 
@@ -62,8 +61,8 @@ pub record Lowers (bytes after : List ℕ) (gone keep : ℕ) : Type 0 where
 
 -- ------------------------------------------------------------------ the message of a line
 
--- `spokenOf numbers code`: the message of each letter. "letter, stock, time, and after these for T the price, for Q participant, bid and offer, for P the
--- participant, for O, R and X participant and price"
+-- `spokenOf numbers code`: the message of each letter. A line has stock and time; then T has a price, Q a participant with bid and offer, P a
+-- participant, and O, R and X have a participant with a price
 pub record Messages (stock time : ℕ) (rest : List ℕ) : Type 0 where
   pub T-is : (price : ℕ) → spokenOf (stock ∷ time ∷ price ∷ rest) 84 ≡ Said (Trade time price)
   pub Q-is : (participant bid offer : ℕ) → spokenOf (stock ∷ time ∷ participant ∷ bid ∷ offer ∷ rest) 81 ≡ Said (Quote time participant bid offer)
@@ -82,7 +81,7 @@ AtMessage = (letter stock time last left : ℕ) (rest : List ℕ) (m : Message) 
     → let d = dayAt (record { letter = letter; numbers = stock ∷ time ∷ rest }) m last left f in
     d .letter ≡ letter and d .stock ≡ stock and d .time ≡ time and d .message ≡ m and d .going ≡ f .live and d .last ≡ last and d .left ≡ left and d .flow ≡ f
 
--- behind the line of a moment the day goes on with the same message, while the output takes what is written
+-- after the line of a moment the day goes on with the same message, while the output takes what is written
 abbrev pub SameMessage : Type 0
 SameMessage = (d : Day) (f : Flow) → let e = withFlow d f in
     e .letter ≡ d .letter and e .stock ≡ d .stock and e .time ≡ d .time and e .message ≡ d .message
@@ -106,7 +105,7 @@ GoodContents = (letter stocks messages end : ℕ) (rest : List ℕ)
     → (contentsOf (record { letter = letter; numbers = stocks ∷ messages ∷ end ∷ rest }) .good ≡ true)
     ↔ (letter ≡ 67 and 1 ≤ stocks and stocks ≤ 8 and IsEnd end)
 
--- and says these numbers
+-- a first line gives these numbers
 abbrev pub SaysContents : Type 0
 SaysContents = (letter stocks messages end : ℕ) (rest : List ℕ) → stocks ≤ 8
     → let c = contentsOf (record { letter = letter; numbers = stocks ∷ messages ∷ end ∷ rest }) in
@@ -129,19 +128,20 @@ pub record Enters (list after : List ℕ) (i tier leverage primary close : ℕ) 
 
 -- ------------------------------------------------------------------ what is printed
 
--- "answer, state, reference, lower, upper, bid, flag, offer, flag"
+-- the nine numbers of an answer, in the order in which a line prints them
 abbrev pub NineNumbers : Type 0
 NineNumbers = (number state reference lower upper bid bidFlag offer offerFlag : ℕ)
     → printedOf (record {
       number = number;
       state = state;
       reference = reference;
-      bands = record { lower = lower; upper = upper };
+      lower = lower;
+      upper = upper;
       best = record { bid = record { price = bid; flag = bidFlag }; offer = record { price = offer; flag = offerFlag } };
     })
     ≡ (number ∷ state ∷ reference ∷ lower ∷ upper ∷ bid ∷ bidFlag ∷ offer ∷ offerFlag ∷ [])
 
--- a block of 380 bytes or more always takes the whole line: behind what is still to be written where 380 bytes are left, else at the front
+-- a block of 380 bytes or more always takes the whole line: after the pending output where 380 bytes are left, else at the front
 abbrev pub LineIsPut : Type 0
 LineIsPut = (bytes : List ℕ) (at stock time letter : ℕ) (a : Answer) → 380 ≤ length bytes → at ≤ length bytes
     → let text = printed stock time letter (printedOf a) in
@@ -172,4 +172,4 @@ pub record Laws : Type 0 where
   pub nine-numbers : NineNumbers
   pub line-is-put : LineIsPut
   -- a mark is a letter's code, and printed as it is
-  pub mark-stays : (m : Moment) → m .mark < 256 → markOf m ≡ m .mark
+  pub mark-stays : (mark : ℕ) → mark < 256 → markOf mark ≡ mark

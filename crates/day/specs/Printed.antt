@@ -6,21 +6,20 @@ use lib.Dec.{ltb}
 use lib.ListN.{length}
 use Rattle.forms.specs.Choice.{if_then_else_}
 use Rattle.rules.specs.declared.Answer.{Answer}
-use Rattle.rules.specs.declared.Moment.{Moment}
 use Rattle.tape.specs.Printing.{Printed, printing}
 
 -- the letter of a moment's mark
-abbrev pub markOf : Moment → ℕ
-markOf moment = moment .mark % 256
+abbrev pub markOf : ℕ → ℕ
+markOf mark = mark % 256
 
--- "answer, state, reference, lower, upper, bid, flag, offer, flag"
+-- the nine numbers of an answer, in the order in which a line prints them
 abbrev pub printedOf : Answer → List ℕ
 printedOf a =
-    a .number ∷ a .state ∷ a .reference ∷ a .bands .lower ∷ a .bands .upper ∷ a .best .bid .price ∷ a .best .bid .flag ∷ a .best .offer .price
+    a .number ∷ a .state ∷ a .reference ∷ a .lower ∷ a .upper ∷ a .best .bid .price ∷ a .best .bid .flag ∷ a .best .offer .price
     ∷ a .best .offer .flag ∷ []
 
--- where in a block of so many bytes the next line is put: behind what is still to be written, or at the front, once that is written, where it might
--- have no room
+-- the place of the next line in a block of so many bytes: after the pending output, or, where the line might not fit there, at the front once
+-- that is written
 unfoldable pub placeOf : ℕ → ℕ → ℕ
 placeOf size at = if ltb (size - at) 380 then 0 else at
 

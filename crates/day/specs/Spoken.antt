@@ -14,8 +14,8 @@ use Rattle.day.specs.declared.flow.Flow.{Flow}
 use Rattle.day.specs.declared.Spoken.{Spoken}
 use Rattle.day.specs.declared.Spoken.the-variants.{Said, Nothing}
 
--- "letter, stock, time, and after these for T the price, for Q participant, bid and offer, for P the participant, for O, R and X participant
--- and price", by the line's numbers and the code of its letter, in this order: T, Q, O, P, R, X; any other letter begins no message
+-- the message of a line, by its numbers (stock, time, and then the letter's own) and the code of its letter, in this order: T, Q, O, P, R, X; any
+-- other letter begins no message
 unfoldable pub spokenOf : List ℕ → ℕ → Spoken
 spokenOf numbers letter =
     let time = getD numbers 1 0 in
@@ -33,6 +33,6 @@ abbrev pub dayAt : Line → Message → ℕ → ℕ → Flow → Day
 dayAt line message last left flow =
     record { letter = line .letter; stock = getD (line .numbers) 0 0; time = getD (line .numbers) 1 0; message = message; going = flow .live; last = last; left = left; flow = flow }
 
--- the day behind its last line: nothing is left of it, and it does not go on
+-- the day after its last line: no message is left, and it does not go on
 abbrev pub endedOf : ℕ → Flow → Day
 endedOf last flow = record { letter = 0; stock = 0; time = 0; message = Pause 0 0; going = false; last = last; left = 0; flow = flow }

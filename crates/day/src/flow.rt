@@ -1,9 +1,8 @@
-// The input and the output, each by way of one large block. What is written is handed on before more is read, so
-// that whoever waits for an answer has it.
+// Buffered input and output, each through one large block. Output is flushed before more input is read, so that a
+// reader who waits for an answer gets it.
 ghost use Prim.Native.Nat.{_+_, _≤_};
 ghost use mathlib.Core.Path.{_≡_};
 ghost use lib.ListN.{length};
-ghost use Rattle.tape.specs.Lines.{unread};
 ghost use Rattle.day.specs.Flow.{Within, Same, reachOf, Sees, lowered, foundOf, missingOf};
 ghost use Rattle.day.specs.Printed.{printedOf, placeOf, putOf};
 use rules::Answer;
@@ -12,38 +11,28 @@ use tape::Line;
 // A line of the input has at most this many bytes, with its line feed.
 const LONGEST: usize = tape::LONGEST_LINE + 1;
 
-// Where the program stands in both blocks.
+// The positions in both blocks.
 pub struct Flow {
-    // the bytes of the input's block that are still to be read
+    // the unread bytes of the input's block: `from` up to `to`
     pub from: usize,
     pub to: usize,
     // how many bytes of the output's block are still to be written
     pub at: usize,
-    // whether the output took all that was written
+    // false once the output has refused a write
     pub live: bool,
 }
 
-// What stands in the next line, and where the one behind it begins.
+// The next line if one was found, and where the line after it begins.
 pub struct Seen {
     pub found: bool,
     pub line: Line,
     pub next: usize,
 }
 
-// A line, and where the program stands behind it.
+// A line, and the positions after it.
 pub struct Taken {
     pub line: Line,
     pub flow: Flow,
-}
-
-// What cannot be read.
-pub(crate) fn unread() -> Line
-    ensures { λ r. ⌜ r ≡ unread ⌝ }
-{
-    Line {
-        letter: 0,
-        numbers: [0; 5],
-    }
 }
 
 // How far to look for the line feed of a line that begins at `from`.
@@ -74,7 +63,7 @@ fn look(input: &[u8], from: usize, to: usize) -> Seen
             next: end + 1,
         };
     }
-    let line = unread();
+    let line = tape::unread();
     Seen {
         found: false,
         line,
@@ -92,7 +81,7 @@ fn lower(bytes: &mut [u8], gone: usize, keep: usize)
     }
 }
 
-// Writes what is still to be written.
+// Writes the pending output.
 pub(crate) fn flush(output: &[u8], f: Flow) -> Flow
     requires { ⌜ f .at ≤ length (now output) ⌝ }
     ensures { λ r. ⌜ (r .at ≡ 0) × (r .from ≡ f .from) × (r .to ≡ f .to) ⌝ }
@@ -107,7 +96,7 @@ pub(crate) fn flush(output: &[u8], f: Flow) -> Flow
     }
 }
 
-// Reads once behind the bytes that are still to be read, which move to the front.
+// Moves the unread bytes to the front of the block, and reads once into the room after them.
 fn refill(input: &mut [u8], f: Flow) -> Flow
     requires { ⌜ (f .from ≤ f .to) × (f .to ≤ length (now input)) ⌝ }
     ensures { λ r. ⌜ (r .at ≡ f .at) × (r .from ≡ 0) × (r .to ≤ length (now (input .entry))) ⌝ }
@@ -124,7 +113,7 @@ fn refill(input: &mut [u8], f: Flow) -> Flow
     }
 }
 
-// Hands on what is to be written and reads more, unless what is there is too long for a line already.
+// Flushes the output and reads more input, unless the unread bytes are already too long for a line.
 fn more(input: &mut [u8], output: &[u8], f: Flow) -> Flow
     requires { ⌜ Within f (length (now input)) (length (now output)) ⌝ }
     ensures { λ r. ⌜ Within r (length (now (input .entry))) (length (now (output .entry))) ⌝ }
@@ -139,16 +128,16 @@ fn more(input: &mut [u8], output: &[u8], f: Flow) -> Flow
     refill(input, written)
 }
 
-// No line that can be read.
+// The result where no line can be read.
 fn missing(f: Flow) -> Taken
     ensures { λ r. ⌜ Same (r .flow) f ⌝ }
     ensures { λ r. ⌜ r ≡ missingOf f ⌝ }
 {
-    let line = unread();
+    let line = tape::unread();
     Taken { line, flow: f }
 }
 
-// A line that ends before `next`.
+// The result for a line that was found; the one after it begins at `next`.
 fn found(line: Line, next: usize, f: Flow) -> Taken
     ensures { λ r. ⌜ (r .flow .from ≡ next) × (r .flow .to ≡ f .to) × (r .flow .at ≡ f .at) ⌝ }
     ensures { λ r. ⌜ r ≡ foundOf line next f ⌝ }
@@ -162,7 +151,7 @@ fn found(line: Line, next: usize, f: Flow) -> Taken
     Taken { line, flow }
 }
 
-// The next line, as unreadable where there is none or it is too long.
+// The next line; an unreadable one where there is none or it is too long.
 pub(crate) fn next_line(input: &mut [u8], output: &[u8], flow: Flow) -> Taken
     requires { ⌜ Within flow (length (now input)) (length (now output)) ⌝ }
     ensures { λ r. ⌜ Within (r .flow) (length (now (input .entry))) (length (now (output .entry))) ⌝ }
@@ -182,7 +171,7 @@ pub(crate) fn next_line(input: &mut [u8], output: &[u8], flow: Flow) -> Taken
     missing(f)
 }
 
-// The output's block with room for a line: it is written where a line might have none.
+// Makes room for a line: flushes the output's block where a line might not fit.
 fn with_room(output: &[u8], f: Flow) -> Flow
     requires { ⌜ f .at ≤ length (now output) ⌝ }
     ensures { λ r. ⌜ (r .at ≤ length (now (output .entry))) × (r .from ≡ f .from) × (r .to ≡ f .to) ⌝ }
@@ -198,15 +187,14 @@ fn with_room(output: &[u8], f: Flow) -> Flow
 fn numbers_of(a: Answer) -> [u64; 9]
     ensures { λ r. ⌜ r ≡ printedOf a ⌝ }
 {
-    let bands = a.bands;
     let bid = a.best.bid;
     let offer = a.best.offer;
     [
         a.number as u64,
         a.state as u64,
         a.reference as u64,
-        bands.lower,
-        bands.upper,
+        a.lower as u64,
+        a.upper as u64,
         bid.price as u64,
         bid.flag as u64,
         offer.price as u64,
@@ -219,7 +207,7 @@ pub(crate) fn put(
     output: &mut [u8],
     flow: Flow,
     stock: u32,
-    time: u64,
+    time: u32,
     letter: u8,
     a: Answer,
 ) -> Flow
@@ -229,7 +217,7 @@ pub(crate) fn put(
 {
     let numbers = numbers_of(a);
     let f = with_room(output, flow);
-    let at = tape::print(output, f.at, stock as u64, time, letter, &numbers);
+    let at = tape::print(output, f.at, stock as u64, time as u64, letter, &numbers);
     Flow {
         from: f.from,
         to: f.to,

@@ -1,5 +1,5 @@
-// The day program of document 01: reads a day's messages from standard input, and prints what becomes of each, and
-// of each moment before it. Up to eight stocks.
+// The day program of document 01, for up to eight stocks: reads a day's messages from standard input, and prints a
+// line for each message and for each moment that is due before it.
 mod flow;
 
 ghost use mathlib.Core.Path.{_≡_};
@@ -10,16 +10,21 @@ ghost use Rattle.day.specs.Spoken.{spokenOf, dayAt, endedOf};
 ghost use Rattle.day.specs.Contents.{contentsOf, setupOf, isSetup, entered};
 ghost use Rattle.day.specs.Printed.{markOf};
 use flow::Flow;
+use rules::DONE;
 use rules::Message;
-use rules::Moment;
+use rules::PLACES;
+use rules::SETUP_NUMBERS;
 use rules::Setup;
 use stock::Record;
 use tape::Line;
 
 // The most stocks that a day has.
-const MOST_STOCKS: u32 = 8;
+const DAY_STOCKS: u32 = 8;
 
-// What a line says of a message.
+// The places that so many stocks need, in each array.
+const DAY_PLACES: usize = DAY_STOCKS as usize * PLACES;
+
+// The message of a line, if it has one.
 enum Spoken {
     Said { message: Message },
     Nothing,
@@ -27,7 +32,7 @@ enum Spoken {
 
 // How far the day has been read.
 struct Day {
-    // the message that is next, where the day goes on
+    // the next message, if the day goes on
     letter: u8,
     stock: u32,
     time: u32,
@@ -39,15 +44,15 @@ struct Day {
     flow: Flow,
 }
 
-// What the lines before the messages say.
+// The content of the lines before the messages.
 struct Opened {
     good: bool,
-    // the number of the last of them, or of the one that cannot be read
+    // the number of the last of these lines, or of the one that cannot be read
     lines: u32,
     flow: Flow,
 }
 
-// What the first line says.
+// The content of the first line.
 struct Contents {
     good: bool,
     stocks: u32,
@@ -63,7 +68,7 @@ fn contents_of(line: Line) -> Contents
     let numbers = line.numbers;
     let stocks = numbers[0];
     let end = numbers[2];
-    if MOST_STOCKS < stocks {
+    if DAY_STOCKS < stocks {
         return Contents {
             good: false,
             stocks: 0,
@@ -79,7 +84,7 @@ fn contents_of(line: Line) -> Contents
     }
 }
 
-// Whether a line is `S tier leverage primary close`, of a setup in range.
+// Whether a line is `S tier leverage primary close`, with every number in range.
 fn is_setup(line: Line) -> bool
     ensures { λ r. ⌜ r ≡ isSetup line ⌝ }
 {
@@ -99,7 +104,7 @@ fn enter(list: &mut [u32], i: u32, line: Line)
     ensures { λ _. ⌜ now (list .exit) ≡ entered (now (list .entry)) i (setupOf (line .numbers)) ⌝ }
 {
     let numbers = line.numbers;
-    let at = 4 * i as usize;
+    let at = SETUP_NUMBERS * i as usize;
     list[at] = numbers[0];
     list[at + 1] = numbers[1];
     list[at + 2] = numbers[2];
@@ -107,10 +112,10 @@ fn enter(list: &mut [u32], i: u32, line: Line)
 }
 
 // The letter of a mark.
-fn mark_of(moment: Moment) -> u8
-    ensures { λ r. ⌜ r ≡ markOf moment ⌝ }
+fn mark_of(mark: u32) -> u8
+    ensures { λ r. ⌜ r ≡ markOf mark ⌝ }
 {
-    (moment.mark % 256) as u8
+    (mark % 256) as u8
 }
 
 // The message of a line, if it is one.
@@ -154,7 +159,7 @@ fn heard(line: Line) -> Spoken
     Spoken::Said { message }
 }
 
-// Writes what is complete, and then which line cannot be read.
+// Flushes the complete lines, and then reports which line cannot be read.
 fn bad(output: &[u8], f: Flow, line: u64)
     requires { ⌜ f .at ≤ length (now output) ⌝ }
 {
@@ -166,7 +171,7 @@ fn bad(output: &[u8], f: Flow, line: u64)
     }
 }
 
-// The day behind its last line.
+// The day after its last line.
 fn ended(last: u64, flow: Flow) -> Day
     ensures { λ r. ⌜ (r .last ≡ last) × (r .left ≡ 0) × Same (r .flow) flow ⌝ }
     ensures { λ r. ⌜ r ≡ endedOf last flow ⌝ }
@@ -187,7 +192,7 @@ fn ended(last: u64, flow: Flow) -> Day
     }
 }
 
-// The day at a line that says a message.
+// The day at a line with a message.
 fn at_message(line: Line, message: Message, last: u64, left: u32, flow: Flow) -> Day
     ensures { λ r. ⌜ (r .last ≡ last) × (r .left ≡ left) × Same (r .flow) flow ⌝ }
     ensures { λ r. ⌜ r ≡ dayAt line message last left flow ⌝ }
@@ -205,8 +210,8 @@ fn at_message(line: Line, message: Message, last: u64, left: u32, flow: Flow) ->
     }
 }
 
-// Reads the next of the messages that are left, or ends the day: behind the last message, at a line that cannot be
-// read, and where the output is closed.
+// Reads the next message. Ends the day after the last message, at a line that cannot be read, and where the output
+// is closed.
 fn next_message(input: &mut [u8], output: &[u8], last: u64, left: u32, flow: Flow) -> Day
     requires { ⌜ Underway last left flow (length (now input)) (length (now output)) ⌝ }
     ensures { λ r. ⌜ Underway (r .last) (r .left) (r .flow) (length (now (input .entry))) (length (now (output .entry))) ⌝ }
@@ -227,7 +232,7 @@ fn next_message(input: &mut [u8], output: &[u8], last: u64, left: u32, flow: Flo
     ended(last, behind)
 }
 
-// The same day, with other text in the output's block.
+// The same day, with other positions in the blocks.
 fn with_flow(d: Day, flow: Flow) -> Day
     ensures { λ r. ⌜ (r .last ≡ d .last) × (r .left ≡ d .left) × Same (r .flow) flow ⌝ }
     ensures { λ r. ⌜ r ≡ withFlow d flow ⌝ }
@@ -269,9 +274,9 @@ fn play(
         let settled = shelf::settle(book, n, times, prices, stock, d.time);
         let notice = settled.notice;
         let answer = notice.answer;
-        if answer.number == 0 {
-            let moment = notice.moment;
-            let after = flow::put(output, flow, stock, moment.time, mark_of(moment), answer);
+        if answer.number == DONE {
+            let mark = notice.mark;
+            let after = flow::put(output, flow, stock, notice.time, mark_of(mark), answer);
             let next = settled.book;
             book = next;
             d = with_flow(d, after);
@@ -279,7 +284,7 @@ fn play(
         }
         let message = d.message;
         let told = shelf::tell(book, n, times, prices, stock, message);
-        let after = flow::put(output, flow, stock, d.time as u64, d.letter, told.answer);
+        let after = flow::put(output, flow, stock, d.time, d.letter, told.answer);
         let next = told.book;
         book = next;
         d = next_message(input, output, d.last, d.left, after);
@@ -338,11 +343,11 @@ fn start(
 fn lend(input: &mut [u8], output: &mut [u8], list: &[u32], contents: Contents, opened: Opened)
     requires { ⌜ (contents .stocks ≤ 8) × (length (now list) ≡ 32) × (opened .lines ≤ 9) × Within (opened .flow) (length (now input)) (length (now output)) ⌝ }
 {
-    let mut times = [0; 4096];
-    let mut prices = [0; 4096];
+    let mut times = [0; DAY_PLACES];
+    let mut prices = [0; DAY_PLACES];
     let n = contents.stocks as usize;
-    let places = 512 * n;
-    let fields = 4 * n;
+    let places = PLACES * n;
+    let fields = SETUP_NUMBERS * n;
     start(
         input,
         output,

@@ -13,7 +13,7 @@ unfoldable pub allOf : List Bool → Bool
 allOf [] = true
 allOf (b ∷ bs) = if b then allOf bs else false
 
--- one of them holds
+-- one test of the list holds
 unfoldable pub anyOf : List Bool → Bool
 anyOf [] = false
 anyOf (b ∷ bs) = if b then true else anyOf bs

@@ -1,7 +1,7 @@
--- What it is for a promise to leave nothing open.
+-- What it means that a promise determines its result.
 -- Assumes nothing.
 use mathlib.Core.Path.{_≡_}
 
--- two results that the promise allows agree
+-- any two results that the promise allows are equal
 abbrev pub Determines : {A : Type 0} → (A → Type 0) → Type 0
 Determines {A} promise = (r s : A) → promise r → promise s → r ≡ s

@@ -1,4 +1,4 @@
--- Tables: of numbers by row and column, and of rows that are all to hold.
+-- Tables of numbers by row and column, and a test of every row of a table.
 -- Assumes nothing.
 use Prim.Native.Nat.{ℕ}
 use mathlib.Core.Bool.{Bool}

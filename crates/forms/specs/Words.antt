@@ -16,12 +16,12 @@ A or B = A ⊎ B
 abbrev pub _and_ : Type 0 → Type 0 → Type 0
 A and B = A × B
 
--- one of the list is so
+-- the proposition holds for one of the list
 abbrev pub Some : {A : Type 0} → (A → Type 0) → List A → Type 0
 Some P [] = ⊥
 Some P (x ∷ xs) = P x or Some P xs
 
--- one of the list
+-- the number is one of the list
 abbrev pub IsOneOf : ℕ → List ℕ → Type 0
 IsOneOf n ns = Some (λ k. n ≡ k) ns
 
@@ -32,7 +32,7 @@ infix 80 _for_
 pub data Number : Type 1 where
   _for_ : ℕ → Type 0 → Number
 
--- where no row above applies
+-- the condition of a row that applies where no row above does
 abbrev pub Otherwise : Type 0
 Otherwise = Unit {0}
 

@@ -18,8 +18,8 @@ use Rattle.rules.specs.declared.Moment.{Moment}
 use Rattle.rules.specs.declared.Quotes.{Quotes}
 use Rattle.rules.specs.declared.Setup.{Setup}
 
--- what is found of a stock is what the rules find of it with its window: its earliest moment, and, of no more than 512 trades that are all
--- good, whether it is rubbish
+-- the verdict on a stock is that of the rules on the stock with its window: its earliest moment, and, where it holds at most 512 trades that are
+-- all good, whether it is rubbish
 abbrev pub EarliestIs : Type 0
 EarliestIs = (h : Whole) → verdictOf (figuresOf (h .window)) (h .stock) .earliest ≡ nextOf h
 
@@ -27,7 +27,7 @@ abbrev pub RubbishIs : Type 0
 RubbishIs = (h : Whole) → length (h .window) ≤ 512 → badTrades (clockOf (h .stock)) (h .window) ≡ false
     → verdictOf (figuresOf (h .window)) (h .stock) .rubbish ≡ rubbish h
 
--- what settling is refused by does not go by the quotes
+-- the number that refuses settling does not depend on the quotes
 abbrev pub SettlingAsksNoQuotes : Type 0
 SettlingAsksNoQuotes = (time : ℕ) (earliest : Moment) (k : Kept) (q : Quotes) → timeChecks time earliest (bare k) ≡ timeChecks time earliest (stockOf k q)
 

@@ -1,4 +1,4 @@
--- What is found of a stock, its trades left aside but for their figures (document 01, "Moments", "Numbers given back").
+-- The verdict on a stock, of whose trades it uses only the figures (document 01, "Moments", "Numbers given back").
 -- Assumes nothing.
 use mathlib.Core.List.{[], _∷_}
 use Rattle.forms.specs.Choice.{anyOf}
@@ -9,7 +9,7 @@ use Rattle.rules.specs.declared.Figures.{Figures}
 use Rattle.rules.specs.declared.Stock.{Stock}
 use Rattle.judge.specs.declared.Verdict.{Verdict}
 
--- its earliest moment; it is rubbish where it is bad by itself, or that moment is dated before the clock: with trades that are good, all of
+-- its earliest moment, and whether it is rubbish: it is bad by itself, or that moment is dated before the clock. With good trades this is all of
 -- document 01's rubbish (the law rubbish-is)
 abbrev pub verdictOf : Figures → Stock → Verdict
 verdictOf f s = record { earliest = next f s; rubbish = anyOf (badStock s ∷ pastAt (clockOf s) (next f s) ∷ []) }

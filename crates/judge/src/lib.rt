@@ -6,19 +6,25 @@ ghost use Rattle.rules.specs.Numbers.{badEnd, badSetup, messageChecks, timeChec
 ghost use Rattle.quotes.specs.Parts.{stockOf, bare};
 ghost use Rattle.judge.specs.Verdict.{verdictOf};
 use quotes::Kept;
+use rules::BEFORE_CLOCK;
+use rules::DONE;
 use rules::Figures;
 use rules::LAST_PARTICIPANT;
 use rules::Message;
 use rules::Moment;
+use rules::NOT_PRIMARY;
+use rules::NOTHING_DUE;
+use rules::OUT_OF_RANGE;
 use rules::Quotes;
 use rules::Setup;
+use rules::UNSETTLED;
 
 mod message;
 mod moment;
 mod range;
 mod table;
 
-// What is found of a stock: its earliest moment, mark 0 where there is none, and whether it is rubbish.
+// The verdict on a stock: its earliest moment, mark 0 where there is none, and whether it is rubbish.
 pub struct Verdict {
     pub earliest: Moment,
     pub rubbish: bool,
@@ -48,7 +54,7 @@ pub fn bad_setup(u: Setup) -> bool
         | close
 }
 
-// The judgement of a stock, its trades left aside but for their figures.
+// Judges a stock; of its trades it uses only the figures.
 pub fn judged(f: Figures, k: Kept, q: Quotes) -> Verdict
     ensures { λ r. ⌜ r ≡ verdictOf f (stockOf k q) ⌝ }
 {
@@ -68,19 +74,19 @@ pub fn message_refusal(m: Message, held: u32, earliest: Moment, k: Kept, q: Quot
 {
     let time = letters::time_of(m);
     if message::out_of_range(k.end, m) {
-        return 4;
+        return OUT_OF_RANGE;
     }
     if time < k.course.clock {
-        return 5;
+        return BEFORE_CLOCK;
     }
     if moment::is_due(time, earliest) {
-        return 6;
+        return UNSETTLED;
     }
     if message::not_primary(k.setup.primary, m) {
-        return 8;
+        return NOT_PRIMARY;
     }
     let number = table::taken(message::kind_of(m), k.course.state);
-    if number != 0 {
+    if number != DONE {
         return number;
     }
     message::own_refusal(m, held, k, q)
@@ -91,10 +97,10 @@ pub fn settle_refusal(time: u32, earliest: Moment, k: Kept) -> u32
     ensures { λ r. ⌜ r ≡ first (timeChecks time earliest (bare k)) ⌝ }
 {
     if range::not_time(k.end, time) {
-        return 4;
+        return OUT_OF_RANGE;
     }
     if moment::is_due(time, earliest) {
-        return 0;
+        return DONE;
     }
-    14
+    NOTHING_DUE
 }

@@ -1,4 +1,4 @@
-// What is asked of a message, by its letter.
+// The checks of a message, by its letter.
 ghost use Prim.Native.Nat.{ℕ, _<_};
 ghost use mathlib.Core.List.{[], _∷_};
 ghost use mathlib.Core.Path.{_≡_};
@@ -12,10 +12,19 @@ ghost use Rattle.rules.specs.declared.Message.the-variants.{Trade};
 ghost use Rattle.quotes.specs.Parts.{stockOf};
 use crate::range;
 use quotes::Kept;
+use rules::DONE;
+use rules::FIRST_FIVE;
+use rules::FLAG_NON_EXECUTABLE;
 use rules::HIGHEST_PRICE;
 use rules::LAST_PARTICIPANT;
+use rules::MOST_TRADES;
 use rules::Message;
+use rules::NO_ROOM;
+use rules::NOT_YET;
+use rules::OUTSIDE_BANDS;
 use rules::Quotes;
+use rules::SHORTEST_PAUSE;
+use rules::WRONG_STATE;
 
 // The message's row of the table.
 pub(crate) fn kind_of(m: Message) -> usize
@@ -31,7 +40,7 @@ pub(crate) fn kind_of(m: Message) -> usize
     }
 }
 
-// Of O, R and X: the participant, the price or the time is out of range.
+// Whether the participant, the price or the time of O, R or X is out of range.
 fn any_out_of_range(end: u32, time: u32, participant: u32, price: u32) -> bool
     ensures { λ r. ⌜ r ≡ anyOf (notParticipant participant ∷ notPrice price ∷ notTime end time ∷ []) ⌝ }
 {
@@ -73,7 +82,7 @@ pub(crate) fn out_of_range(end: u32, m: Message) -> bool
     }
 }
 
-// Whether it must come from the primary and does not.
+// Whether the message must come from the primary and does not.
 pub(crate) fn not_primary(primary: u32, m: Message) -> bool
     ensures { λ r. ⌜ r ≡ notPrimary primary m ⌝ }
 {
@@ -87,29 +96,29 @@ pub(crate) fn not_primary(primary: u32, m: Message) -> bool
     }
 }
 
-// A last check: its number where it applies.
+// The number of a last check where it applies, else 0.
 fn last_check(number: u32, applies: bool) -> u32
     ensures { λ r. ⌜ r ≡ first (number when applies ∷ []) ⌝ }
 {
     if applies {
         return number;
     }
-    0
+    DONE
 }
 
-// Of T: 12 outside bands in force, 13 with 512 trades held.
+// The last checks of T: 12 outside bands in force, 13 where 512 trades are held.
 fn trade_refusal(price: u32, held: u32, k: Kept) -> u32
     ensures { λ r. ⌜ ((time : ℕ) (q : Quotes) → r ≡ first (ownChecks (Trade time price) held (stockOf k q))) ⌝ }
 {
     let basis = quotes::basis_of(k);
     let outside = quotes::is_outside(basis, price);
     if outside {
-        return 12;
+        return OUTSIDE_BANDS;
     }
-    if 512 <= held {
-        return 13;
+    if MOST_TRADES <= held {
+        return NO_ROOM;
     }
-    0
+    DONE
 }
 
 // Whether a side has flag 2, which P needs.
@@ -119,7 +128,7 @@ fn is_straddle(k: Kept, q: Quotes) -> bool
     let basis = quotes::basis_of(k);
     let shown = quotes::show(basis, q);
     let best = shown.best;
-    (best.bid.flag == 2) | (best.offer.flag == 2)
+    (best.bid.flag == FLAG_NON_EXECUTABLE) | (best.offer.flag == FLAG_NON_EXECUTABLE)
 }
 
 // The number of the message's own checks, 0 where none applies.
@@ -130,10 +139,13 @@ pub(crate) fn own_refusal(m: Message, held: u32, k: Kept, q: Quotes) -> u32
     let end = k.end;
     match m {
         Message::Trade { price, .. } => trade_refusal(price, held, k),
-        Message::Quote { .. } => 0,
-        Message::Opening { time, .. } => last_check(9, 300_000 <= time),
-        Message::Pause { .. } => last_check(9, !is_straddle(k, q)),
-        Message::Reopening { time, .. } => last_check(10, (time as u64) < pause + 300_000),
-        Message::Closing { time, .. } => last_check(10, time < end),
+        Message::Quote { .. } => DONE,
+        Message::Opening { time, .. } => last_check(WRONG_STATE, FIRST_FIVE <= time),
+        Message::Pause { .. } => last_check(WRONG_STATE, !is_straddle(k, q)),
+        Message::Reopening { time, .. } => last_check(
+            NOT_YET,
+            (time as u64) < pause + SHORTEST_PAUSE,
+        ),
+        Message::Closing { time, .. } => last_check(NOT_YET, time < end),
     }
 }

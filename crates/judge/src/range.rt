@@ -1,15 +1,16 @@
-// What is out of range, and of a stock, its window left aside, what is rubbish.
+// The range checks, and the rubbish checks of a stock without its window.
 ghost use mathlib.Core.Path.{_≡_};
 ghost use mathlib.Core.List.{foldl};
 ghost use mathlib.Core.Bool.{false};
 ghost use Prim.Native.Nat.{_≤_};
 ghost use Rattle.quotes.specs.Parts.{bare};
 ghost use Rattle.rules.specs.Numbers.{notPrice, notTime, badTimes, orNotSide, badQuotes, badReference, badStock};
-use crate::moment;
 use quotes::Kept;
+use rules::AFTER_END;
 use rules::CLOSED;
 use rules::HIGHEST_PRICE;
 use rules::LATE;
+use rules::LATE_BEFORE_END;
 use rules::PAUSED;
 use rules::Quotes;
 use rules::TRADING;
@@ -25,14 +26,14 @@ pub(crate) fn not_price(price: u32) -> bool
 pub(crate) fn not_time(end: u32, time: u32) -> bool
     ensures { λ r. ⌜ r ≡ notTime end time ⌝ }
 {
-    (end as u64) + 300_000 < (time as u64)
+    (end as u64) + AFTER_END < (time as u64)
 }
 
-// Whether a kept time is out of range, a stale one too.
+// Whether a kept time is out of range; stale ones are checked too.
 fn bad_times(k: Kept) -> bool
     ensures { λ r. ⌜ r ≡ badTimes (bare k) ⌝ }
 {
-    let last = (k.end as u64) + 300_000;
+    let last = (k.end as u64) + AFTER_END;
     let clock = k.course.clock as u64;
     let start = k.reference.start as u64;
     let entry = k.course.entry as u64;
@@ -51,7 +52,7 @@ fn bits_of(sides: [u32; 16]) -> u32
     bits
 }
 
-// Whether one was bad before, or one of the sides is out of range.
+// Whether one was bad before, or one of these sides is out of range.
 fn or_not_sides(bad: bool, sides: [u32; 16]) -> bool
     ensures { λ r. ⌜ r ≡ foldl orNotSide bad sides ⌝ }
 {
@@ -62,7 +63,7 @@ fn or_not_sides(bad: bool, sides: [u32; 16]) -> bool
     any
 }
 
-// Whether a bid or an offer is out of range; one look at the bits of all is nearly always enough.
+// Whether a bid or an offer is out of range; the OR of all sides nearly always decides it.
 pub(crate) fn bad_quotes(q: Quotes) -> bool
     ensures { λ r. ⌜ r ≡ badQuotes q ⌝ }
 {
@@ -85,7 +86,7 @@ fn bad_reference(k: Kept) -> bool
     (HIGHEST_PRICE < price) | ((price == 0) & (TRADING <= state) & (state <= LATE))
 }
 
-// Whether a stock is rubbish, its quotes, its window and its next moment left aside.
+// Whether a stock is rubbish, without a look at its quotes, its window and its next moment.
 pub(crate) fn bad_kept(k: Kept) -> bool
     ensures { λ r. ⌜ r ≡ badStock (bare k) ⌝ }
 {
@@ -95,6 +96,6 @@ pub(crate) fn bad_kept(k: Kept) -> bool
     let end = crate::bad_end(k.end);
     let times = bad_times(k);
     let reference = bad_reference(k);
-    let edge = moment::minus(k.end as u64, 600_000);
+    let edge = band::minus(k.end as u64, LATE_BEFORE_END);
     (CLOSED < state) | setup | end | times | reference | ((state == PAUSED) & (edge <= pause))
 }

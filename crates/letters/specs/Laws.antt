@@ -1,4 +1,4 @@
--- What the promises of letters come to. Each field is a theorem: `laws` of proofs/Laws.antt proves the record.
+-- What the promises of letters obey. Each field is a theorem: `laws` of proofs/Laws.antt proves the record.
 -- Assumes nothing.
 use mathlib.Core.Path.{_≡_}
 use Rattle.forms.specs.Promises.{Determines}
@@ -8,5 +8,5 @@ use Rattle.rules.specs.declared.Message.{Message}
 pub record Laws : Type 0 where
   -- each function promises one message of its numbers, so two results agree
   pub message-determined : (m : Message) → Determines (λ r. r ≡ m)
-  -- and a message has one time
+  -- a message has one time
   pub time-of-determined : (m : Message) → Determines (λ r. r ≡ timeOf m)

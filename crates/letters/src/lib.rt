@@ -1,5 +1,5 @@
-// The message of each letter, by its numbers in the order of document 01, and a message's time. No function has a `requires`: which numbers
-// are in range is for the book to say.
+// Builds the message of each letter from its numbers, in the order of document 01, and gives a message's time. No
+// function has a `requires`: the book checks the ranges.
 ghost use mathlib.Core.Path.{_≡_};
 ghost use Rattle.rules.specs.declared.Message.the-variants.{Trade, Quote, Opening, Pause, Reopening, Closing};
 ghost use Rattle.rules.specs.Messages.{timeOf};
@@ -12,7 +12,7 @@ pub fn trade(time: u32, price: u32) -> Message
     Message::Trade { time, price }
 }
 
-// Q: a participant's bid and offer, of which 0 is none.
+// Q: a participant's bid and offer; 0 means absent.
 pub fn quote(time: u32, participant: u32, bid: u32, offer: u32) -> Message
     ensures { λ m. ⌜ m ≡ Quote time participant bid offer ⌝ }
 {

@@ -26,18 +26,18 @@ PartsAreAll = (s : Stock) → stockOf (keptOf s) (s .quotes) ≡ s
 abbrev pub BasisIs : Type 0
 BasisIs = (b : Basis) (q : Quotes) → basisOf (keptOf (stockBy b q)) ≡ b and stockBy b q .quotes ≡ q
 
--- what a stock shows: the rules' bands in force, and their best quotes with their flags
+-- what a stock shows is the rules' bands in force, and their best quotes with their flags
 abbrev pub ShownIs : Type 0
 ShownIs = (s : Stock) → shownOf s .bands ≡ bandsIn s and shownOf s .best ≡ bestOf s
 
--- what a stock shows goes by its basis and its quotes alone, and so does which price is outside its bands
+-- what a stock shows depends only on its basis and its quotes, and so does which price is outside its bands
 abbrev pub ShownByBasis : Type 0
 ShownByBasis = (k : Kept) (q : Quotes) → shownOf (stockBy (basisOf k) q) ≡ shownOf (stockOf k q)
 
 abbrev pub OutsideByBasis : Type 0
 OutsideByBasis = (k : Kept) (q : Quotes) (price : ℕ) → outside (stockBy (basisOf k) noQuotes) price ≡ outside (stockOf k q) price
 
--- "In Limit .. bands don't change (k is that of the entry's time)": to enter Limit changes nothing that is shown
+-- Limit keeps the bands of the time of its entry, so entering Limit changes nothing that is shown
 abbrev pub LimitShowsTheSame : Type 0
 LimitShowsTheSame = (s : Stock) → stateOf s ≡ Trading → shownOf (enter-limit s) ≡ shownOf s
 

@@ -1,4 +1,4 @@
--- A stock and its parts: what functions speak of that take no whole stock.
+-- A stock and its parts, for the functions that do not take a whole stock.
 -- Assumes nothing.
 use Rattle.rules.specs.States.{noQuotes}
 use Rattle.rules.specs.declared.Quotes.{Quotes}
@@ -18,7 +18,7 @@ keptOf s = record { setup = s .setup; end = s .end; course = s .course; referenc
 abbrev pub bare : Kept → Stock
 bare k = stockOf k noQuotes
 
--- what the bands of a stock go by
+-- the numbers that the bands of a stock depend on
 abbrev pub basisOf : Kept → Basis
 basisOf k = record {
   tier = k .setup .tier;

@@ -1,12 +1,12 @@
 // What a stock shows: the bands in force, and the best bid and the best offer with their flags. A function takes
-// the parts of a stock that it asks, never the whole. No public function has a `requires`: each gives for every
-// input what the rules of quotes say of the stock that has these parts.
+// only the parts of a stock that it needs. No public function has a `requires`: each gives for every input what the
+// rules of quotes give for a stock with these parts.
 ghost use mathlib.Core.Path.{_≡_};
 ghost use Rattle.rules.specs.States.{noQuotes};
 ghost use Rattle.rules.specs.Numbers.{outside};
 ghost use Rattle.quotes.specs.Parts.{basisOf, stockBy};
 ghost use Rattle.quotes.specs.Shown.{shownOf};
-use band::Limits;
+use band::Bands;
 use rules::Best;
 use rules::Course;
 use rules::Quotes;
@@ -24,7 +24,7 @@ pub struct Kept {
     pub reference: Reference,
 }
 
-// What the bands go by.
+// The numbers that bands depend on.
 pub struct Basis {
     pub tier: u32,
     pub leverage: u32,
@@ -38,11 +38,11 @@ pub struct Basis {
 
 // What a stock shows.
 pub struct Shown {
-    pub bands: Limits,
+    pub bands: Bands,
     pub best: Best,
 }
 
-// What the bands of a stock go by.
+// The numbers that the bands of a stock depend on.
 pub fn basis_of(k: Kept) -> Basis
     ensures { λ r. ⌜ r ≡ basisOf k ⌝ }
 {

@@ -6,7 +6,11 @@ ghost use Rattle.rules.specs.Quotes.{inForce, kTime, bandsIn, bestBid, bestOffe
 ghost use Rattle.rules.specs.States.{noQuotes};
 ghost use Rattle.quotes.specs.Parts.{stockBy};
 use crate::Basis;
-use band::Limits;
+use band::Bands;
+use rules::FLAG_ABSENT;
+use rules::FLAG_LIMIT;
+use rules::FLAG_NON_EXECUTABLE;
+use rules::FLAG_PLAIN;
 use rules::LIMIT;
 use rules::TRADING;
 
@@ -32,19 +36,19 @@ fn k_time(b: Basis) -> u32
 }
 
 // The lower and the upper band in force, zeros where none are.
-pub(crate) fn bands_in(b: Basis) -> Limits
+pub(crate) fn bands_in(b: Basis) -> Bands
     ensures { λ r. ⌜ r ≡ bandsIn (stockBy b noQuotes) ⌝ }
 {
     if in_force(b) {
         let percent = band::percent(b.tier, b.close);
         let time = k_time(b);
         let k = band::factor(b.leverage, time, b.end);
-        return band::bands(b.reference, percent, k);
+        return band::bands_of(b.reference, percent, k);
     }
-    Limits { lower: 0, upper: 0 }
+    Bands { lower: 0, upper: 0 }
 }
 
-// The price, or the greatest that 32 bits hold.
+// The price, capped at the greatest 32-bit number.
 fn clipped(price: u64) -> u32
     ensures { λ r. ⌜ r ≡ min price 4_294_967_295 ⌝ }
 {
@@ -54,7 +58,7 @@ fn clipped(price: u64) -> u32
     4_294_967_295
 }
 
-// The highest bid that would count.
+// The highest bid that counts.
 fn cap_of(on: bool, upper: u64) -> u32
     ensures { λ r. ⌜ r ≡ (if on then min upper 4_294_967_295 else 4_294_967_295) ⌝ }
 {
@@ -64,7 +68,7 @@ fn cap_of(on: bool, upper: u64) -> u32
     4_294_967_295
 }
 
-// The highest offer that would not count; an absent one is 0.
+// The highest offer that does not count: 0, an absent one, where no band excludes more.
 fn floor_of(on: bool, lower: u64) -> u32
     ensures { λ r. ⌜ r ≡ (if on then min (lower - 1) 4_294_967_295 else 0) ⌝ }
 {
@@ -77,7 +81,7 @@ fn floor_of(on: bool, lower: u64) -> u32
     0
 }
 
-// The distance from one price up to another, or `gap` where that is less; to a lower price the way goes round.
+// The distance from one price up to another, modulo 2^32, or `gap` where that is less.
 fn nearer(from: u64, to: u32, gap: u32) -> u32
     requires { ⌜ from ≤ 4_294_967_296 ⌝ }
     ensures { λ r. ⌜ r ≡ min gap ((to + 4_294_967_296 - from) % 4_294_967_296) ⌝ }
@@ -89,7 +93,8 @@ fn nearer(from: u64, to: u32, gap: u32) -> u32
     gap
 }
 
-// The best bid, 0 where none counts: going down from the cap and round, 0 comes before every bid that does not count.
+// The best bid, 0 where none counts. Counting down from the cap modulo 2^32, 0 comes before every bid that does not
+// count.
 pub(crate) fn best_bid(on: bool, upper: u64, bids: [u32; 16]) -> u32
     ensures { λ r. ⌜ r ≡ bestBid on upper bids ⌝ }
 {
@@ -102,7 +107,8 @@ pub(crate) fn best_bid(on: bool, upper: u64, bids: [u32; 16]) -> u32
     cap - gap
 }
 
-// The best offer, 0 where none counts: going up from the least that counts and round, 0 comes before every other that does not.
+// The best offer, 0 where none counts. Counting up from the least that counts modulo 2^32, 0 comes before every
+// other that does not.
 pub(crate) fn best_offer(on: bool, lower: u64, offers: [u32; 16]) -> u32
     ensures { λ r. ⌜ r ≡ bestOffer on lower offers ⌝ }
 {
@@ -120,39 +126,39 @@ pub(crate) fn best_offer(on: bool, lower: u64, offers: [u32; 16]) -> u32
 }
 
 // The best bid's flag.
-pub(crate) fn bid_flag(on: bool, bands: Limits, bid: u32) -> u32
+pub(crate) fn bid_flag(on: bool, bands: Bands, bid: u32) -> u32
     ensures { λ r. ⌜ r ≡ bidFlag on bands bid ⌝ }
 {
     let b = bid as u64;
     if b == 0 {
-        return 0;
+        return FLAG_ABSENT;
     }
     if on {
         if b < bands.lower {
-            return 2;
+            return FLAG_NON_EXECUTABLE;
         }
         if b == bands.upper {
-            return 3;
+            return FLAG_LIMIT;
         }
     }
-    1
+    FLAG_PLAIN
 }
 
 // The best offer's flag.
-pub(crate) fn offer_flag(on: bool, bands: Limits, offer: u32) -> u32
+pub(crate) fn offer_flag(on: bool, bands: Bands, offer: u32) -> u32
     ensures { λ r. ⌜ r ≡ offerFlag on bands offer ⌝ }
 {
     let o = offer as u64;
     if o == 0 {
-        return 0;
+        return FLAG_ABSENT;
     }
     if on {
         if bands.upper < o {
-            return 2;
+            return FLAG_NON_EXECUTABLE;
         }
         if o == bands.lower {
-            return 3;
+            return FLAG_LIMIT;
         }
     }
-    1
+    FLAG_PLAIN
 }

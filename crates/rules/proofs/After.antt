@@ -65,7 +65,7 @@ unchanged h e v c p l = go (state-after h e v)
     go (stays m n k x q) = q
 
 -- w, v and h outside Trading: a Test is made in Trading only
-pub quiet : (h : Whole) (n : Notice) → CanHappen h (moment n) → ¬ (stateOf (h .stock) ≡ Trading) → (l : ℕ) → n .moment .mark ≡ l
+pub quiet : (h : Whole) (n : Notice) → CanHappen h (moment n) → ¬ (stateOf (h .stock) ≡ Trading) → (l : ℕ) → n .mark ≡ l
     → has (letter-X ∷ mark-z ∷ mark-c ∷ letter-P ∷ mark-x ∷ []) l ≡ false → has (mark-p ∷ mark-f ∷ []) l ≡ false
     → ¬ Looks h (moment n) × (stateOf (fire h .stock) ≡ stateOf (h .stock))
 quiet h n v t l is a c = let plain = plainly (moment n) l is a in (unlooking, unchanged h (moment n) v (plain .no-close) (plain .no-pause) unlooking)

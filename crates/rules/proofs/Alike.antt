@@ -10,13 +10,23 @@ use lib.Dec.{eqb, ltb}
 use lib.ListN.{length, set, length-set}
 use lib.Seq.{getD-set-same, getD-set-other}
 use Rattle.forms.proofs.Choice.{if-true, if-false, if-arms}
-use Rattle.rules.specs.Machine.{Machine, MachineLaws, Call, tell, settle, message, moment, messages, notices, On, of, Every, History, number, done, event, Lawful, left, Book, stock, numberIn, stepIn, happens, run, log, ByHistory, Alike}
+use Rattle.rules.specs.Machine.{Machine, MachineLaws, Call, tell, settle, message, moment, messages, notices, On, of, Every, History, number, done, event, Lawful, left, Book, Calls, stock, numberIn, stepIn, happens, run, log, ByHistory, Alike}
 
 pub of-append : {A : Type 0} (i : ℕ) (xs ys : List (On A)) → of i (xs ++ ys) ≡ of i xs ++ of i ys
 unfolding of
 of-append i [] ys = refl
 of-append i (x ∷ xs) ys =
     if-arms (λ ws. ws ++ of i (xs ++ ys) ≡ (ws ++ of i xs) ++ of i ys) _ (λ _. ap (λ zs. x .it ∷ zs) (of-append i xs ys)) (λ _. of-append i xs ys)
+
+-- calls leave as many stocks as there were
+module _ (𝓜 : Machine) (blank : 𝓜 .Stock) where
+  pub length-step : (b : Book 𝓜) (c : On (Call (𝓜 .Message))) → length (stepIn 𝓜 blank b c) ≡ length b
+  unfolding stepIn
+  length-step b c = if-arms (λ (x : Book 𝓜). length x ≡ length b) _ (λ _. length-set b (c .at) _) (λ _. refl)
+
+  pub length-run : (b : Book 𝓜) (cs : Calls 𝓜) → length (run 𝓜 blank b cs) ≡ length b
+  length-run b [] = refl
+  length-run b (c ∷ cs) = length-run (stepIn 𝓜 blank b c) cs ∙ length-step b c
 
 module _ (𝓜 : Machine) (L : MachineLaws 𝓜) where
   open Machine 𝓜 using (Stock, Message, Notice, time, date, clock, Due, tells, settles, after, fire, notice)
@@ -121,15 +131,11 @@ module _ (𝓜 : Machine) (L : MachineLaws 𝓜) where
         by-number true t = by-stock (in-range (ltb (c .at) (length b)) refl (eqb-true _ _ t)) t (eqb i (c .at)) refl
         by-number false t = nothing (rw (t, if-false) refl) (rw (t, if-false) refl)
 
-    pub length-step : (b : Book 𝓜) (c : On (Call Message)) → length (stepIn 𝓜 blank b c) ≡ length b
-    unfolding stepIn
-    length-step b c = if-arms (λ (x : Book 𝓜). length x ≡ length b) _ (λ _. length-set b (c .at) _) (λ _. refl)
-
     pub by-history : ByHistory 𝓜 blank
     unfolding of
     by-history b [] i h = (tt, refl)
     by-history b (c ∷ cs) i h = join (does b c i h) (of-append i (happens 𝓜 blank b c) (log 𝓜 blank (stepIn 𝓜 blank b c) cs))
-        (by-history (stepIn 𝓜 blank b c) cs i (rw (length-step b c) h))
+        (by-history (stepIn 𝓜 blank b c) cs i (rw (length-step 𝓜 blank b c) h))
       where
         b′ : Book 𝓜
         b′ = stepIn 𝓜 blank b c

@@ -16,8 +16,7 @@ use Rattle.forms.proofs.Choice.{if-true, if-false}
 use Rattle.forms.proofs.Decides.{Decides, words, is-so, stable, either-way, by-lt, by-eq, by-le, skip, take, one-number, exactly, listed as one-listed, numbersIn, within, among}
 use Rattle.rules.specs.Stock.{Whole, stateOf}
 use Rattle.rules.specs.Quotes.{bandsIn, bestOf}
-use Rattle.rules.specs.Moments.{no-moment}
-use Rattle.rules.specs.Numbers.{badShape, callChecks, tells, settles, reads, answer, zeros, afterTelling, afterSettling, notice, tellAnswer, settleAnswer, readAnswer, setupAnswer, fresh}
+use Rattle.rules.specs.Numbers.{badShape, callChecks, tells, settles, reads, answer, zeros, noNotice, afterTelling, afterSettling, notice, tellAnswer, settleAnswer, readAnswer, setupAnswer, fresh}
 use Rattle.rules.specs.Machine.{numberIn, stock}
 use Rattle.rules.specs.Book.{machine, blank, bookTells, bookSettles, bookReads}
 use Rattle.rules.specs.Words.{IsShape, refusals, settleRefusals, readRefusals, bookRefusals, setupRefusals, ShowsNothing, Shows}
@@ -34,7 +33,7 @@ use Rattle.rules.proofs.Ranges.{shape-is}
 -- ------------------------------------------------------------------ a call on a stock
 
 -- a number is 0 or not
-done-or-not : (n : ℕ) → (n ≡ 0) ⊎ (¬ (n ≡ 0))
+pub done-or-not : (n : ℕ) → (n ≡ 0) ⊎ (¬ (n ≡ 0))
 done-or-not n = either-way _ (by-eq n 0)
 
 pub calls-leave : CallsLeave
@@ -52,18 +51,18 @@ unfolding answer if_then_else_
 shows-it n s = go (anyOf (eqb n 1 ∷ eqb n 2 ∷ eqb n 3 ∷ [])) (search words)
   where
     go : (b : Bool) → Decides b (n ≡ 1 or n ≡ 2 or n ≡ 3)
-        → Shows n s (if b then zeros n else record { number = n; state = stateOf s; reference = s .reference .price; bands = bandsIn s; best = bestOf s })
+        → Shows n s (if b then zeros n else record { number = n; state = stateOf s; reference = s .reference .price; lower = bandsIn s .lower; upper = bandsIn s .upper; best = bestOf s })
     go true d = (refl, inl (d .holds refl, (refl, (refl, (refl, (refl, (refl, (refl, (refl, refl)))))))))
     go false d = (refl, inr (d .fails refl, (refl, (refl, (bands-shown s, (bid-shown s, offer-shown s))))))
 
-number-of : (n : ℕ) (s : Stock) → answer n s .number ≡ n
+pub number-of : (n : ℕ) (s : Stock) → answer n s .number ≡ n
 number-of n s = shows-it n s .0
 
 abbrev SettleShows : ℕ → Whole → Type 0
 SettleShows time h =
     let a = settleAnswer time h in
     Shows (settles time h) (afterSettling time h .stock) (a .answer)
-    × (¬ (settles time h ≡ 0) → a .moment .mark ≡ 0 and a .moment .time ≡ 0)
+    × (¬ (settles time h ≡ 0) → a .mark ≡ 0 and a .time ≡ 0)
 
 settle-done : (time : ℕ) (h : Whole) → settles time h ≡ 0 → SettleShows time h
 unfolding notice
@@ -117,7 +116,7 @@ module _ {A : Type 0} (zero : ℕ → A) (it : A) (numberOf : A → ℕ) (its : 
   abbrev There : Type 0
   There = IsShape stocks times prices and i < stocks
 
-  if-there : There → called-answer ≡ it
+  pub if-there : There → called-answer ≡ it
   if-there t = go (called stocks times prices i)
     where
       go : Called stocks times prices i → called-answer ≡ it
@@ -125,7 +124,7 @@ module _ {A : Type 0} (zero : ℕ → A) (it : A) (numberOf : A → ℕ) (its : 
       go (no-stock s l e) = let k = t .1 in absurd (omega arith)
       go (there s l e) = if-true _ _ _ (eq-eqb _ 0 e)
 
-  if-not : ¬ There → called-answer ≡ zero (first (callChecks stocks times prices i))
+  pub if-not : ¬ There → called-answer ≡ zero (first (callChecks stocks times prices i))
   if-not n = go (called stocks times prices i)
     where
       go : Called stocks times prices i → called-answer ≡ zero (first (callChecks stocks times prices i))
@@ -165,7 +164,7 @@ module _ (end : ℕ) (b : List Whole) (times prices i : ℕ) where
 
   settled-on : (time : ℕ) → Gives (bookRefusals (length b) times prices i (settleRefusals time here)) (bookSettles end b times prices i time .answer .number)
   unfolding bookSettles
-  settled-on time = called-number {A = Notice} (λ n. record { answer = zeros n; moment = no-moment }) _ (λ a. a .answer .number) (λ n. refl) (length b) times prices i _
+  settled-on time = called-number {A = Notice} noNotice _ (λ a. a .answer .number) (λ n. refl) (length b) times prices i _
       (subst (Gives (settleRefusals time here)) (sym (settled-number time)) (settled time here))
 
   read-on : Gives (bookRefusals (length b) times prices i (readRefusals here)) (bookReads end b times prices i .number)
@@ -178,11 +177,11 @@ unfolding bookTells bookSettles bookReads
 answers end b times prices i = (
   (λ m. (if-there zeros _ (λ a. a .number) (λ n. refl) _ _ _ _, (λ n. nothing-shown _ _ (if-not zeros _ (λ a. a .number) (λ n. refl) _ _ _ _ n)))),
   (λ time. (
-    if-there {A = Notice} (λ n. record { answer = zeros n; moment = no-moment }) _ (λ a. a .answer .number) (λ n. refl) _ _ _ _,
+    if-there {A = Notice} noNotice _ (λ a. a .answer .number) (λ n. refl) _ _ _ _,
     (λ n.
-        let e = if-not {A = Notice} (λ n. record { answer = zeros n; moment = no-moment }) (settleAnswer time (stock machine (blank end) b i))
+        let e = if-not {A = Notice} noNotice (settleAnswer time (stock machine (blank end) b i))
         (λ a. a .answer .number) (λ n. refl) (length b) times prices i n in
-        (nothing-shown _ _ (ap (λ a. a .answer) e), ap (λ a. a .moment) e)),
+        (nothing-shown _ _ (ap (λ a. a .answer) e), ap (λ a. a .mark) e, ap (λ a. a .time) e)),
   )),
   if-there zeros _ (λ a. a .number) (λ n. refl) _ _ _ _,
   (λ n. nothing-shown _ _ (if-not zeros _ (λ a. a .number) (λ n. refl) _ _ _ _ n)),

@@ -14,12 +14,12 @@ use Rattle.forms.specs.Words.Number.{_for_}
 use Rattle.forms.proofs.Choice.{if-true, if-false, if-arms}
 use Rattle.forms.proofs.Decides.{Decides, words, is-true, is-false, either-way, reworded, never, always, by-lt, by-eq, and-more, all-one, or-more, one-test, skip, take}
 use Rattle.band.specs.Band.{bandsOf}
-use Rattle.band.specs.declared.Limits.{Limits}
+use Rattle.band.specs.declared.Bands.{Bands}
 use Rattle.band.proofs.Laws.{ordered}
 use Rattle.rules.specs.Stock.{Trading, Limit, stateOf, clockOf}
 use Rattle.rules.specs.Quotes.{inForce, kTime, bandsIn, higher, lesser, bestBid, bestOffer, bidFlag, offerFlag, bestOf, flagged, atLimit, straddle, crossed}
 use Rattle.rules.specs.Numbers.{outside}
-use Rattle.rules.specs.Words.{bandsAt, Bands, BidCounts, OfferCounts, BestBid, BestOffer, Straddle, AtBand, Crossing, BidShown, OfferShown, Outside, BandsShown}
+use Rattle.rules.specs.Words.{bandsAt, HasBands, BidCounts, OfferCounts, BestBid, BestOffer, Straddle, AtBand, Crossing, BidShown, OfferShown, Outside, BandsShown}
 use Rattle.rules.specs.declared.Stock.{Stock}
 
 -- ------------------------------------------------------------------ bands in force
@@ -40,34 +40,34 @@ unfolding inForce
 force-is s = search words
 
 -- the bands in words are those of the rules
-only-bands : (s : Stock) (l : Limits) → Bands s l → Force s × (bandsIn s ≡ l)
+only-bands : (s : Stock) (l : Bands) → HasBands s l → Force s × (bandsIn s ≡ l)
 only-bands s l (inl k) = (inl (k .0), in-trading s (k .0) ∙ sym (k .1))
 only-bands s l (inr k) = (inr (k .0), in-limit s (k .0) ∙ sym (k .1))
 
-bands-on : (s : Stock) → Force s → Bands s (bandsIn s)
+bands-on : (s : Stock) → Force s → HasBands s (bandsIn s)
 bands-on s (inl e) = inl (e, in-trading s e)
 bands-on s (inr e) = inr (e, in-limit s e)
 
 -- a test that asks A of the bands in force, and is false without them
-banded : (s : Stock) (A : Limits → Type 0) (b : Bool) → Decides b (A (bandsIn s)) → Decides (allOf (inForce s ∷ b ∷ [])) ((l : Limits) × Bands s l × A l)
+banded : (s : Stock) (A : Bands → Type 0) (b : Bool) → Decides b (A (bandsIn s)) → Decides (allOf (inForce s ∷ b ∷ [])) ((l : Bands) × HasBands s l × A l)
 banded s A b d = reworded {P = Force s and A (bandsIn s)} (
   (λ k. (bandsIn s, bands-on s (k .0), k .1)),
   (λ k. let o = only-bands s (k .0) (k .1) in (o .0, subst A (sym (o .1)) (k .2))),
 ) (and-more _ _ _ _ (force-is s) (all-one _ _ d))
 
 -- one of two such tests
-either-banded : (s : Stock) (A B : Limits → Type 0) (a b : Bool) → Decides a ((l : Limits) × Bands s l × A l) → Decides b ((l : Limits) × Bands s l × B l)
-    → Decides (anyOf (a ∷ b ∷ [])) ((l : Limits) × Bands s l × (A l or B l))
+either-banded : (s : Stock) (A B : Bands → Type 0) (a b : Bool) → Decides a ((l : Bands) × HasBands s l × A l) → Decides b ((l : Bands) × HasBands s l × B l)
+    → Decides (anyOf (a ∷ b ∷ [])) ((l : Bands) × HasBands s l × (A l or B l))
 either-banded s A B a b d e = reworded (to, from) (or-more _ _ _ _ d (one-test _ _ e))
   where
-    to : ((l : Limits) × Bands s l × A l) ⊎ ((l : Limits) × Bands s l × B l) → (l : Limits) × Bands s l × (A l or B l)
+    to : ((l : Bands) × HasBands s l × A l) ⊎ ((l : Bands) × HasBands s l × B l) → (l : Bands) × HasBands s l × (A l or B l)
     to (inl k) = (k .0, k .1, inl (k .2))
     to (inr k) = (k .0, k .1, inr (k .2))
 
-    from : ((l : Limits) × Bands s l × (A l or B l)) → ((l : Limits) × Bands s l × A l) ⊎ ((l : Limits) × Bands s l × B l)
+    from : ((l : Bands) × HasBands s l × (A l or B l)) → ((l : Bands) × HasBands s l × A l) ⊎ ((l : Bands) × HasBands s l × B l)
     from k = go (k .2)
       where
-        go : A (k .0) ⊎ B (k .0) → ((l : Limits) × Bands s l × A l) ⊎ ((l : Limits) × Bands s l × B l)
+        go : A (k .0) ⊎ B (k .0) → ((l : Bands) × HasBands s l × A l) ⊎ ((l : Bands) × HasBands s l × B l)
         go (inl a) = inl (k .0, k .1, a)
         go (inr b) = inr (k .0, k .1, b)
 
@@ -126,10 +126,10 @@ module _ {pick : ℕ → ℕ → ℕ} {Counts : ℕ → Type 0} {Better : ℕ �
 
 module _ (s : Stock) where
   -- a bid above the upper band in force, and an offer below the lower, is left out
-  bid-out : (x : ℕ) → Decides (allOf (inForce s ∷ ltb (bandsIn s .upper) x ∷ [])) ((l : Limits) × Bands s l × (l .upper < x))
+  bid-out : (x : ℕ) → Decides (allOf (inForce s ∷ ltb (bandsIn s .upper) x ∷ [])) ((l : Bands) × HasBands s l × (l .upper < x))
   bid-out x = banded s (λ l. l .upper < x) _ (by-lt _ _)
 
-  offer-out : (x : ℕ) → Decides (allOf (inForce s ∷ ltb x (bandsIn s .lower) ∷ [])) ((l : Limits) × Bands s l × (x < l .lower))
+  offer-out : (x : ℕ) → Decides (allOf (inForce s ∷ ltb x (bandsIn s .lower) ∷ [])) ((l : Bands) × HasBands s l × (x < l .lower))
   offer-out x = banded s (λ l. x < l .lower) _ (by-lt _ _)
 
   bids : Picks (higher (inForce s) (bandsIn s .upper)) (BidCounts s) (λ x y. x ≤ y)
@@ -142,7 +142,7 @@ module _ (s : Stock) where
     takes = λ best x c. rw (if-false _ _ _ (is-false _ (bid-out x) (λ k. omega (arith, c .1 (k .0) (k .1), k .2)))) (omega arith);
   }
     where
-      larger : (best x : ℕ) → ¬ ((l : Limits) × Bands s l × (l .upper < x)) → (best < x) ⊎ (¬ (best < x)) → (max best x ≡ best) ⊎ ((max best x ≡ x) × BidCounts s x)
+      larger : (best x : ℕ) → ¬ ((l : Bands) × HasBands s l × (l .upper < x)) → (best < x) ⊎ (¬ (best < x)) → (max best x ≡ best) ⊎ ((max best x ≡ x) × BidCounts s x)
       larger best x n (inl m) = inr (omega arith, (omega arith, λ l b. let k : ¬ (l .upper < x) = λ k. n (l, b, k) in omega arith))
       larger best x n (inr m) = inl (omega arith)
 
@@ -152,7 +152,7 @@ Lower x y = 1 ≤ x → (1 ≤ y) × (y ≤ x)
 
 module _ (s : Stock) where
   -- absent or left out
-  no-offer : (x : ℕ) → Decides (anyOf (eqb x 0 ∷ allOf (inForce s ∷ ltb x (bandsIn s .lower) ∷ []) ∷ [])) (x ≡ 0 or ((l : Limits) × Bands s l × (x < l .lower)))
+  no-offer : (x : ℕ) → Decides (anyOf (eqb x 0 ∷ allOf (inForce s ∷ ltb x (bandsIn s .lower) ∷ []) ∷ [])) (x ≡ 0 or ((l : Bands) × HasBands s l × (x < l .lower)))
   no-offer x = or-more _ _ _ _ (by-eq x 0) (one-test _ _ (offer-out s x))
 
   offers : Picks (lesser (inForce s) (bandsIn s .lower)) (OfferCounts s) Lower
@@ -171,7 +171,7 @@ module _ (s : Stock) where
         (if-arms (λ r. (1 ≤ r) × (r ≤ x)) _ (λ _. omega arith) (λ e. let n = eqb-false best 0 e in omega arith));
   }
     where
-      counts : (x : ℕ) → ¬ (x ≡ 0 or ((l : Limits) × Bands s l × (x < l .lower))) → OfferCounts s x
+      counts : (x : ℕ) → ¬ (x ≡ 0 or ((l : Bands) × HasBands s l × (x < l .lower))) → OfferCounts s x
       counts x n =
           let z : ¬ (x ≡ 0) = λ z. n (inl z) in
           (omega arith, λ l b. let k : ¬ (x < l .lower) = λ k. n (inr (l, b, k)) in omega arith)
@@ -254,23 +254,23 @@ flag-gives true false false dx dy = skip 2 _ _ _ (dx .fails refl) (skip 3 _ _ _ 
 flag-gives false x y dx dy = skip 2 _ _ _ (dx .fails refl) (skip 3 _ _ _ (dy .fails refl) (take 1 _ _ _ tt refl))
 
 -- a side of a stock: its best price and its flag, what the best is in words, and when a price is beyond a band and at the other
-module _ (s : Stock) (best : ℕ) (Best : ℕ → Type 0) (Beyond : ℕ → Limits → Type 0) (band : Limits → ℕ) where
+module _ (s : Stock) (best : ℕ) (Best : ℕ → Type 0) (Beyond : ℕ → Bands → Type 0) (band : Bands → ℕ) where
   record Flagged (flag : ℕ) : Type 0 where
-    two : Decides (eqb flag 2) ((l : Limits) × Bands s l × ((b : ℕ) × Best b × Beyond b l))
-    three : Decides (eqb flag 3) ((l : Limits) × Bands s l × Best (band l))
+    two : Decides (eqb flag 2) ((l : Bands) × HasBands s l × ((b : ℕ) × Best b × Beyond b l))
+    three : Decides (eqb flag 3) ((l : Bands) × HasBands s l × Best (band l))
     shown : (¬ ((b : ℕ) × Best b) and best ≡ 0 and flag ≡ 0)
         or (Best best and Gives (
-        2 for ((l : Limits) × Bands s l × Beyond best l) ∷
-        3 for ((l : Limits) × Bands s l × (best ≡ band l)) ∷
+        2 for ((l : Bands) × HasBands s l × Beyond best l) ∷
+        3 for ((l : Bands) × HasBands s l × (best ≡ band l)) ∷
         1 for Otherwise ∷
         []) flag)
 
   module _ (is : ¬ (best ≡ 0) → Best best) (only : (b : ℕ) → Best b → (b ≡ best) × ¬ (best ≡ 0))
       (apart : Force s → best ≡ band (bandsIn s) → ¬ Beyond best (bandsIn s)) (beyond : Bool) (d : Decides beyond (Beyond best (bandsIn s))) where
-    is-beyond : Decides (allOf (inForce s ∷ beyond ∷ [])) ((l : Limits) × Bands s l × Beyond best l)
+    is-beyond : Decides (allOf (inForce s ∷ beyond ∷ [])) ((l : Bands) × HasBands s l × Beyond best l)
     is-beyond = banded s (Beyond best) _ d
 
-    is-at : Decides (allOf (inForce s ∷ eqb best (band (bandsIn s)) ∷ [])) ((l : Limits) × Bands s l × (best ≡ band l))
+    is-at : Decides (allOf (inForce s ∷ eqb best (band (bandsIn s)) ∷ [])) ((l : Bands) × HasBands s l × (best ≡ band l))
     is-at = banded s (λ l. best ≡ band l) _ (by-eq _ _)
 
     side-flagged : Flagged (flagOf (eqb best 0) (inForce s) beyond (eqb best (band (bandsIn s))))

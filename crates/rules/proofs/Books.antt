@@ -1,9 +1,9 @@
 -- What calls do to a book, and that each of its stocks is what its story leaves.
 -- Assumes nothing.
 use Prim.Native.Nat.{ℕ, zero, suc, _<_}
-use mathlib.Core.List.{List, [], _∷_}
+use mathlib.Core.List.{List, [], _∷_, _++_}
 use mathlib.Core.Logic.{inl, inr}
-use mathlib.Core.Path.{_≡_, refl, subst}
+use mathlib.Core.Path.{_≡_, refl, sym, ap, _∙_, subst}
 use borrow.Author.Tests.{ne-eqb}
 use native.Mathlib.Nat.{le-of-suc-le-suc, not-suc-le-zero}
 use native.Mathlib.Omega.{arith}
@@ -14,11 +14,12 @@ use Rattle.forms.proofs.Choice.{if-arms, if-false}
 use Rattle.forms.proofs.Decides.{past}
 use Rattle.rules.specs.Stock.{Whole}
 use Rattle.rules.specs.Numbers.{fresh}
-use Rattle.rules.specs.Machine.{Lawful, left, numberIn, stepIn}
-use Rattle.rules.specs.Book.{machine, Accepted, noSetup, blank, book, now, story}
+use Rattle.rules.specs.Machine.{Lawful, left, Calls, stock, numberIn, stepIn}
+use Rattle.rules.specs.Book.{machine, Accepted, noSetup, blank, book, now, story, journalOf}
 use Rattle.rules.specs.Words.{IsEnd, IsSetup}
-use Rattle.rules.specs.Demands.{ByStory, Refused, OthersStay, SettledAlike}
+use Rattle.rules.specs.Demands.{ByStory, Refused, OthersStay, SettledAlike, SetUpAlike, SameStock, SameJournal, Replayed, SettledOn}
 use Rattle.rules.specs.declared.Setup.{Setup}
+use Rattle.rules.proofs.Journal.{by-journal, by-entries, by-settling}
 use Rattle.rules.proofs.Lawful.{rules-by-history, rules-settled-alike}
 use Rattle.rules.proofs.Numbers.{setup-numbers}
 use Rattle.rules.proofs.Ranges.{in-end, in-setup}
@@ -62,3 +63,36 @@ by-story end us a cs i h =
 
 pub settled-alike : SettledAlike
 settled-alike end us cs ds time a b m i h = rules-settled-alike (blank end) (book end us) cs ds time a b m i (inside end us i h)
+
+-- ------------------------------------------------------------------ two stocks that were set up alike
+
+module _ (end : ℕ) (us vs : List Setup) (i j : ℕ) (k : SetUpAlike us vs i j) where
+  here : i < length (book end us)
+  here = inside end us i (k .first)
+
+  there : j < length (book end vs)
+  there = inside end vs j (k .second)
+
+  begun : stock machine (blank end) (book end us) i ≡ stock machine (blank end) (book end vs) j
+  begun = List·getD-map (fresh end) us i noSetup ∙ ap (fresh end) (k .alike) ∙ sym (List·getD-map (fresh end) vs j noSetup)
+
+  same : (cs ds : Calls machine) → (journalOf end us cs i ≡ journalOf end vs ds j) × (now end us cs i ≡ now end vs ds j) × (story end us cs i ≡ story end vs ds j)
+      → SameStock end us vs cs ds i j
+  same cs ds k = record { journals = k .0; stocks = k .1; stories = k .2 }
+
+pub same-journal : SameJournal
+same-journal end us vs cs ds i j k q =
+    same end us vs i j k cs ds
+    (by-journal machine (blank end) (book end us) (book end vs) i j (here end us vs i j k) (there end us vs i j k) (begun end us vs i j k) cs ds q)
+
+pub replayed : Replayed
+replayed end us vs cs ds es fs i j k q entries is p =
+    let both = by-entries machine (blank end) (book end us) (book end vs) i j (here end us vs i j k) (there end us vs i j k) (begun end us vs i j k)
+    cs ds es fs q entries is p in
+    (both .0, same end us vs i j k (cs ++ es) (ds ++ fs) (both .1))
+
+pub settled-on : SettledOn
+settled-on end time us vs cs ds es fs i j k q a n a′ n′ =
+    same end us vs i j k (cs ++ es) (ds ++ fs)
+    (by-settling machine (blank end) (book end us) (book end vs) i j (here end us vs i j k) (there end us vs i j k) (begun end us vs i j k)
+    cs ds es fs q time a n a′ n′)

@@ -23,7 +23,7 @@ use Rattle.rules.specs.Messages.{letter-T, letter-Q, letter-O, letter-P,
 use Rattle.rules.specs.Numbers.{notice}
 use Rattle.rules.specs.Machine.{Event, message, moment, becomes}
 use Rattle.rules.specs.Book.{machine}
-use Rattle.rules.specs.Words.{IsMean, OnePercent, AtBand}
+use Rattle.rules.specs.Words.{IsMean, OnePercent, AtBand, itsMoment}
 use Rattle.rules.specs.Changes.{LeavesLimit, Test, Starts, StartsOne, Looks}
 use Rattle.rules.specs.Demands.{CanHappen, StatesAre, ReferenceIs, KeptIs}
 use Rattle.rules.specs.declared.Figures.{Figures}
@@ -227,7 +227,7 @@ message-changed (X time participant price) h =
 
 module _ (h : Whole) (n : Notice) (v : CanHappen h (moment n)) where
   abbrev m : Moment
-  m = n .moment
+  m = itsMoment n
 
   abbrev e : Event Message Notice
   e = moment n

@@ -4,14 +4,14 @@ use Prim.Native.Nat.{ℕ, _+_, _≤_, _<_}
 use mathlib.Core.Bool.{Bool, true, false, not}
 use mathlib.Core.List.{List, [], _∷_}
 use mathlib.Core.Logic.{inl, inr, _↔_}
-use mathlib.Core.Path.{_≡_, refl, subst}
+use mathlib.Core.Path.{_≡_, refl, ap, subst}
 use native.Mathlib.Omega.{arith}
 use borrow.Author.Tests.{eq-eqb, ne-eqb}
 use lib.Dec.{T as Given, leb, eqb}
 use Rattle.forms.specs.Choice.{if_then_else_, anyOf}
 use Rattle.forms.proofs.Decides.{Decides, words, reworded, by-le}
 use Rattle.rules.specs.Stock.{Trade, Whole, oldest, figuresOf}
-use Rattle.rules.specs.Moments.{Row, momentTable, sooner, earliest, next, nextOf, dueBy, pastAt}
+use Rattle.rules.specs.Moments.{no-moment, Row, momentTable, sooner, earliest, next, nextOf, dueBy, pastAt}
 use Rattle.rules.specs.Numbers.{notice}
 use Rattle.rules.specs.Words.{Coming, oldestAt, moments, Comes, Due, IsFirst}
 use Rattle.rules.specs.Demands.{MomentsAre}
@@ -39,7 +39,7 @@ lines h = search (words, no-line, line, oldest-is) depth 40 fits 4000
 -- ------------------------------------------------------------------ the moment that comes first
 
 -- no row is still to come
-abbrev None : List Coming → Type 0
+abbrev pub None : List Coming → Type 0
 None cs = ¬ Comes (λ time. Unit {0}) cs
 
 -- none still to come is before the first
@@ -57,9 +57,9 @@ weaker At Bt (c ∷ cs) w (inl k) = inl (k .0, w _ (k .1))
 weaker At Bt (c ∷ cs) w (inr k) = inr (weaker At Bt cs w k)
 
 -- the earliest of the rules' table is the first of the words', and there is none where none is still to come
-data Foremost (m : Moment) (cs : List Coming) : Type 0 where
+pub data Foremost (m : Moment) (cs : List Coming) : Type 0 where
   is-first : IsMoment m → IsFirst m cs → Foremost m cs
-  is-none : m .mark ≡ 0 → None cs → Foremost m cs
+  is-none : m ≡ no-moment → None cs → Foremost m cs
 
 -- a row in front of the rest, of which m comes first
 foremost-row : (mark t : ℕ) (b : Bool) (C : Type 0) (m : Moment) (cs : List Coming) → ¬ (mark ≡ 0) → Decides b C → Foremost m cs
@@ -71,7 +71,7 @@ foremost-row mark t false C m cs n d (is-none z f) = is-none z none
     none : None (record { mark = mark; time = t; comes = C } ∷ cs)
     none (inl k) = d .fails refl (k .0)
     none (inr k) = f k
-foremost-row mark t true C m cs n d (is-none z f) = rw (eq-eqb (m .mark) 0 z) (is-first n (inl (d .holds refl, (refl, (refl, λ k. f (weaker _ _ cs (λ _ _. tt) k))))))
+foremost-row mark t true C m cs n d (is-none z f) = rw (eq-eqb (m .mark) 0 (ap (λ m. m .mark) z)) (is-first n (inl (d .holds refl, (refl, (refl, λ k. f (weaker _ _ cs (λ _ _. tt) k))))))
 foremost-row mark t true C m cs n d (is-first i f) = rw (ne-eqb (m .mark) 0 i) (go (leb t (m .time)) (by-le t (m .time)))
   where
     go : (l : Bool) → Decides l (t ≤ m .time)
@@ -89,7 +89,7 @@ foremost rs cs (line {mark} {t} {u} {b} {C} {rs = qs} {cs = ds} n e d l) =
     subst (λ u. Foremost (earliest (record { mark = mark; time = t; comes = b } ∷ qs)) (record { mark = mark; time = u; comes = C } ∷ ds)) e
     (foremost-row mark t b C (earliest qs) ds (is-mark mark n) d (foremost qs ds l))
 
-next-foremost : (h : Whole) → Foremost (nextOf h) (moments h)
+pub next-foremost : (h : Whole) → Foremost (nextOf h) (moments h)
 unfolding next
 next-foremost h = foremost _ _ (lines h)
 
@@ -98,7 +98,7 @@ next-first h is = go (next-foremost h)
   where
     go : Foremost (nextOf h) (moments h) → IsFirst (nextOf h) (moments h)
     go (is-first i f) = f
-    go (is-none z f) = absurd (is z)
+    go (is-none z f) = absurd (is (ap (λ m. m .mark) z))
 
 pub moments-are : MomentsAre
 unfolding notice
@@ -120,7 +120,7 @@ module _ (At : ℕ → Type 0) (down : (a b : ℕ) → a ≤ b → At b → At a
   -- the first is at such a time exactly where one still to come is
   comes-is : (cs : List Coming) → Foremost m cs → (IsMoment m × At (m .time)) ↔ Comes At cs
   comes-is cs (is-first i f) = ((λ k. at-first cs f (k .1)), (λ k. (i, at-least cs k (none-before m cs f))))
-  comes-is cs (is-none z f) = ((λ k. absurd (k .0 z)), (λ k. absurd (f (weaker At _ cs (λ _ _. tt) k))))
+  comes-is cs (is-none z f) = ((λ k. absurd (k .0 (ap (λ m. m .mark) z))), (λ k. absurd (f (weaker At _ cs (λ _ _. tt) k))))
 
 pub due-is : (time : ℕ) (h : Whole) → Decides (dueBy time (nextOf h)) (Due time h)
 unfolding dueBy

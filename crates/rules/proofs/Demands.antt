@@ -3,17 +3,21 @@
 use Rattle.rules.specs.Demands.{Demands}
 use Rattle.rules.proofs.Alike.{alike}
 use Rattle.rules.proofs.Answers.{book-numbers, listed, calls-leave, shows, answers, fresh-is}
-use Rattle.rules.proofs.Books.{by-story, refused, others, settled-alike}
+use Rattle.rules.proofs.Books.{by-story, refused, others, settled-alike, same-journal, replayed, settled-on}
 use Rattle.rules.proofs.Changed.{states, reference, kept}
 use Rattle.rules.proofs.Coming.{moments-are}
+use Rattle.rules.proofs.Entries.{asked-grow, journals-grow}
 use Rattle.rules.proofs.Examples.{by-hand, as-printed, at-edges}
 use Rattle.rules.proofs.Few.{few-moments}
 use Rattle.rules.proofs.FirstFive.{one-f}
+use Rattle.rules.proofs.Fits.{fit}
 use Rattle.rules.proofs.Held.{held-trades}
 use Rattle.rules.proofs.Last.{quotes, clock, last-quotes}
+use Rattle.rules.proofs.Journal.{journal-is, journals-are}
 use Rattle.rules.proofs.Lawful.{machineLaws}
 use Rattle.rules.proofs.Looks.{looked-at}
 use Rattle.rules.proofs.Means.{mean}
+use Rattle.rules.proofs.Next.{next-is, book-next, next-settles}
 use Rattle.rules.proofs.Numbers.{numbers, setup-numbers}
 use Rattle.rules.proofs.Only.{changes-only}
 use Rattle.rules.proofs.Pauses.{dates, pauses}
@@ -32,7 +36,11 @@ demands = record {
   listed = listed;
   calls-leave = calls-leave;
   shows = shows;
+  fit = fit;
   answers = answers;
+  next-is = next-is;
+  book-next = book-next;
+  next-settles = next-settles;
   fresh-is = fresh-is;
   by-story = by-story;
   calls-step = calls-step;
@@ -43,6 +51,13 @@ demands = record {
   of-any-machine = alike;
   machine-laws = machineLaws;
   settled-alike = settled-alike;
+  journal-is = journal-is;
+  journals-are = journals-are;
+  asked-grow = asked-grow;
+  journals-grow = journals-grow;
+  same-journal = same-journal;
+  replayed = replayed;
+  settled-on = settled-on;
   few-moments = few-moments;
   moments-are = moments-are;
   trades = trades;

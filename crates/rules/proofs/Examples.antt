@@ -11,9 +11,9 @@ use Rattle.rules.specs.Quotes.{inForce, kTime, bandsIn, higher, lesser, 
 use Rattle.rules.specs.States.{look, begin-trading, leave, test, begin-pause, shut}
 use Rattle.rules.specs.Moments.{momentTable, sooner, earliest, next, dueBy, pastAt, first-five, effect, windowAfter, come, fire}
 use Rattle.rules.specs.Messages.{taken, tradeRules, quoteRules, does, after}
-use Rattle.rules.specs.Numbers.{notPrice, badEnd, badSetup, badTimes, orNotSide, badQuotes, badReference, badTrade, see, badTrades, badStock, rubbish, outOfRange, notPrimary, outside, ownChecks, messageChecks, checks, tells, timeChecks, settleChecks, settles, answer, afterTelling, afterSettling, notice, tellAnswer, settleAnswer, fresh, badShape, callChecks, orBadSetup, setupChecks, setsUp, setupAnswer}
+use Rattle.rules.specs.Numbers.{notPrice, badEnd, badSetup, badTimes, orNotSide, badQuotes, badReference, badTrade, see, badTrades, badStock, rubbish, outOfRange, notPrimary, outside, ownChecks, messageChecks, checks, tells, timeChecks, settleChecks, settles, readChecks, reads, answer, afterTelling, afterSettling, notice, tellAnswer, settleAnswer, nextAnswer, fresh, badShape, callChecks, orBadSetup, setupChecks, setsUp, setupAnswer}
 use Rattle.rules.specs.Machine.{numberIn, stepIn}
-use Rattle.rules.specs.Book.{bookTells, bookSettles}
+use Rattle.rules.specs.Book.{bookTells, bookSettles, bookNext}
 use Rattle.rules.specs.Examples.{right, byHand}
 use Rattle.rules.specs.Days.{line, printed, sameNumbers, sameLines, asPrinted, theDay, limitAgain, theLooks, offerStraddle, theFlags, openedByF, theTest, theTies, narrowed, aLimit, byTheClose, noOpening, oneMillisecond, aLatePause, aPause, aStraddle, days}
 use Rattle.rules.specs.Edges.{asAnswered, edges}
@@ -28,5 +28,5 @@ unfolding if_then_else_ allOf anyOf first every percentOf factorOf spreadOf cent
 as-printed = refl
 
 pub at-edges : AtEdges
-unfolding if_then_else_ allOf anyOf first every percentOf factorOf spreadOf cent lowerOf upperOf bandsOf meanOf distance movesOf total oldest figuresOf staying inForce kTime bandsIn higher lesser bestBid bestOffer bidFlag offerFlag bestOf flagged crossed look begin-trading leave test begin-pause shut momentTable sooner earliest next dueBy pastAt first-five effect windowAfter come taken tradeRules quoteRules does after notPrice badEnd badSetup badTimes orNotSide badQuotes badReference badTrade see badTrades badStock rubbish outOfRange notPrimary outside ownChecks messageChecks checks tells timeChecks settleChecks settles answer afterTelling afterSettling tellAnswer settleAnswer fresh line sameNumbers badShape callChecks orBadSetup setupChecks setsUp setupAnswer fire notice bookTells bookSettles asAnswered edges
+unfolding if_then_else_ allOf anyOf first every percentOf factorOf spreadOf cent lowerOf upperOf bandsOf meanOf distance movesOf total oldest figuresOf staying inForce kTime bandsIn higher lesser bestBid bestOffer bidFlag offerFlag bestOf flagged crossed look begin-trading leave test begin-pause shut momentTable sooner earliest next dueBy pastAt first-five effect windowAfter come taken tradeRules quoteRules does after notPrice badEnd badSetup badTimes orNotSide badQuotes badReference badTrade see badTrades badStock rubbish outOfRange notPrimary outside ownChecks messageChecks checks tells timeChecks settleChecks settles readChecks reads answer afterTelling afterSettling tellAnswer settleAnswer nextAnswer fresh line sameNumbers badShape callChecks orBadSetup setupChecks setsUp setupAnswer fire notice bookTells bookSettles bookNext asAnswered edges
 at-edges = refl

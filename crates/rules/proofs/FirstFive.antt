@@ -47,17 +47,17 @@ message-early m h e = go (kept h (message m) (e, tt) .1 .1 .1 .1 .1)
     go (inr k) = k .1
 
 module _ (h : Whole) (n : Notice) (v : CanHappen h (moment n)) where
-  f-ends : n .moment .mark ≡ mark-f → early (fire h .stock) ≡ 0
+  f-ends : n .mark ≡ mark-f → early (fire h .stock) ≡ 0
   f-ends f = go (kept h (moment n) v .1 .1 .1 .1 .1)
     where
-      go : IsNew (n .moment .mark ≡ mark-f) (early (fire h .stock)) 0 (early (h .stock)) → early (fire h .stock) ≡ 0
+      go : IsNew (n .mark ≡ mark-f) (early (fire h .stock)) 0 (early (h .stock)) → early (fire h .stock) ≡ 0
       go (inl k) = k .1
       go (inr k) = absurd (k .0 f)
 
-  other-leaves : ¬ (n .moment .mark ≡ mark-f) → early (fire h .stock) ≡ early (h .stock)
+  other-leaves : ¬ (n .mark ≡ mark-f) → early (fire h .stock) ≡ early (h .stock)
   other-leaves o = go (kept h (moment n) v .1 .1 .1 .1 .1)
     where
-      go : IsNew (n .moment .mark ≡ mark-f) (early (fire h .stock)) 0 (early (h .stock)) → early (fire h .stock) ≡ early (h .stock)
+      go : IsNew (n .mark ≡ mark-f) (early (fire h .stock)) 0 (early (h .stock)) → early (fire h .stock) ≡ early (h .stock)
       go (inl k) = absurd (o (k .0))
       go (inr k) = k .1
 
@@ -85,7 +85,7 @@ unfolding momentTable
 f-or-v h m w l =
     by-row h m (λ m. m .time ≤ 300_000 → (m .mark ≡ mark-f → ⊥) → m .mark ≡ mark-v) (omega (arith, eqb-true, all-leb))
 
-v-waits : (h : Whole) (n : Notice) → CanHappen h (moment n) → stateOf (h .stock) ≡ Waiting → n .moment .mark ≡ mark-v → stateOf (fire h .stock) ≡ Waiting
+v-waits : (h : Whole) (n : Notice) → CanHappen h (moment n) → stateOf (h .stock) ≡ Waiting → n .mark ≡ mark-v → stateOf (fire h .stock) ≡ Waiting
 v-waits h n v w e = quiet h n v (λ t. omega arith) mark-v e refl refl .1 ∙ w
 
 -- ------------------------------------------------------------------ a story
@@ -100,7 +100,7 @@ f-count h (message m ∷ es) v k =
     omega (arith, f-count (after m h) es (v .1) (omega arith))
 f-count h (moment n ∷ es) v k =
     let m = machineLaws .its-time (v .0 .0) h (v .0 .1) .0 in
-    let e : markOf n ≡ nextOf h .mark = ap (λ n. n .moment .mark) (v .1) in
+    let e : markOf n ≡ nextOf h .mark = ap (λ n. n .mark) (v .1) in
     if-arms (λ one. one + countOf mark-f es + early (left machine (fire h) es .stock) ≡ early (h .stock)) _
     (λ q. let f = eqb-true (markOf n) mark-f q in
     let o = f-ends h n (v .0, v .1, tt) f in
@@ -129,7 +129,7 @@ f-happens h (moment n ∷ es) time v q l x =
     before-by (λ s. stateOf (left machine h s .stock) ≡ Waiting → ⊥) 300_000 (moment n) es (λ _. rec)
     (λ k w. let f = f-comes h w (λ e. x (over h (moment n ∷ es) v e)) in
     let once : CanHappen h (moment n) = (v .0, v .1, tt) in
-    let same : markOf n ≡ nextOf h .mark = ap (λ n. n .moment .mark) (v .1) in
+    let same : markOf n ≡ nextOf h .mark = ap (λ n. n .mark) (v .1) in
     let a = f-or-v h (f .0) w (end-least h (v .0 .0) (v .0 .1)) (f .1) (λ e. x (over (fire h) es (v .2) (f-ends h n once (same ∙ e)))) in
     rec (rw (before-clock 300_000 (fire h) es (v .2) (omega (arith, event-clock h (moment n) es v))) (v-waits h n once w (same ∙ a))))
 

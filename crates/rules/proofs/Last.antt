@@ -137,7 +137,7 @@ quotes-stay h (message (R t i a)) v c q = trading-stands (stands-quotes (λ q. q
 quotes-stay h (message (X t i a)) v c q = absurd (c (inl refl))
 quotes-stay h (moment n) v c q =
     let k = stands-quotes (λ q. q ≡ h .stock .quotes) in
-    let same : n .moment .mark ≡ nextOf h .mark = ap (λ n. n .moment .mark) (v .1) in
+    let same : n .mark ≡ nextOf h .mark = ap (λ n. n .mark) (v .1) in
     let not-closing : closingMark (nextOf h .mark) ≡ false = any-not _ _ (ne-eqb _ _ (λ z. c (inr (inl (same ∙ z)))))
     (any-not _ _ (ne-eqb _ _ (λ z. c (inr (inr (inl (same ∙ z)))))) any-empty) in
     effect-open (λ s. s .quotes ≡ h .stock .quotes) (nextOf h .mark) _ _ not-closing (look-stands k _ refl) refl (trading-stands k _ _ refl) (test-stands k _ _ refl)

@@ -6,11 +6,14 @@ pub mod Kept
 pub mod Passed
 pub mod Lawful
 pub mod Books
+pub mod Journal
 pub mod Stories
+pub mod Entries
 pub mod Events
 pub mod MomentRows
 pub mod Timely
 pub mod Sound
+pub mod Fits
 pub mod Few
 pub mod Stays
 pub mod Pauses
@@ -26,6 +29,7 @@ pub mod Ranges
 pub mod Coming
 pub mod Numbers
 pub mod Answers
+pub mod Next
 pub mod Means
 pub mod Changing
 pub mod Changed

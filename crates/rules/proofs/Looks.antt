@@ -18,7 +18,7 @@ use Rattle.rules.specs.Messages.{timeOf}
 use Rattle.rules.specs.Numbers.{fresh}
 use Rattle.rules.specs.Machine.{Event, message, moment, dated, Lawful, becomes, left}
 use Rattle.rules.specs.Book.{machine, Story}
-use Rattle.rules.specs.Words.{AtBand, Crossing, moments, Due, IsFirst}
+use Rattle.rules.specs.Words.{AtBand, Crossing, moments, Due, IsFirst, itsMoment}
 use Rattle.rules.specs.Changes.{Closes, Looks, ReferenceAfter}
 use Rattle.rules.specs.Demands.{CanHappen, QuotesLookedAt}
 use Rattle.rules.specs.declared.Stock.{Stock}
@@ -77,7 +77,7 @@ same-k h (message m) v t c l = (
     none = taken-words m h (v .0) .none-due
 same-k h (moment n) v t c l = go (moments-are h n v)
   where
-    go : IsFirst (n .moment) (moments h) → SameK (h .stock .end) (clockOf (h .stock)) (n .moment .time)
+    go : IsFirst (itsMoment n) (moments h) → SameK (h .stock .end) (clockOf (h .stock)) (n .time)
     go (inl k) = absurd (c (inr (inl (k .1 .0))))
     go (inr (z, inl k)) = absurd (l (inr (t, inr (inl (k .1 .0)))))
     go (inr (z, inr (w, inl k))) = absurd (l (inr (t, inr (inl (k .1 .0)))))

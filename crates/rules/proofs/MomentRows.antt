@@ -15,6 +15,7 @@ use Rattle.rules.specs.Moments.{mark-z, mark-w, mark-x, mark-p, mark-c, 
 use Rattle.rules.specs.Numbers.{settles, notice}
 use Rattle.rules.specs.Machine.{moment, Lawful}
 use Rattle.rules.specs.Book.{machine}
+use Rattle.rules.specs.Words.{itsMoment}
 use Rattle.rules.specs.declared.Stock.{Stock}
 use Rattle.rules.specs.declared.Figures.{Figures}
 use Rattle.rules.specs.declared.Moment.{Moment}
@@ -82,6 +83,6 @@ pub settled-row : (t : ℕ) (h : Whole) → settles t h ≡ 0 → IsRow (figures
 settled-row t h e = next-row _ _ (when-due t (nextOf h) (settled t h e .due) .0)
 
 -- the moment of a notice that the rules allow next
-pub notice-row : (h : Whole) (n : Notice) → Lawful machine h (moment n ∷ []) → IsRow (figuresOf (h .window)) (h .stock) (n .moment)
+pub notice-row : (h : Whole) (n : Notice) → Lawful machine h (moment n ∷ []) → IsRow (figuresOf (h .window)) (h .stock) (itsMoment n)
 unfolding notice
 notice-row h n v = rw (v .1) (settled-row (v .0 .0) h (v .0 .1))

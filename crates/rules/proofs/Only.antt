@@ -15,7 +15,7 @@ use Rattle.rules.specs.Quotes.{inForce, kTime, bandsIn, bestOf, flagged,
 use Rattle.rules.specs.Moments.{mark-p}
 use Rattle.rules.specs.Machine.{Event, message, moment, dated, becomes}
 use Rattle.rules.specs.Book.{machine}
-use Rattle.rules.specs.Words.{IsMean, Bands, AtBand}
+use Rattle.rules.specs.Words.{IsMean, HasBands, AtBand}
 use Rattle.rules.specs.Changes.{IsNew, quoteBy, Quoted, QuotesAfter, Starts, ReferenceAfter, Enters, stateAfter, KeptAfter}
 use Rattle.rules.specs.Demands.{ChangesOnly}
 use Rattle.rules.specs.declared.Course.{Course}
@@ -48,7 +48,7 @@ one-mean w r r′ a b = only-mean w r a .1 ∙ sym (only-mean w r′ b .1)
 
 -- p starts the old reference, any other moment the mean
 by-mean : (h : Whole) (n : Notice) (r : ℕ) → Starts h (moment n) r
-    → (n .moment .mark ≡ mark-p and r ≡ h .stock .reference .price) or (¬ (n .moment .mark ≡ mark-p) and IsMean (becomes machine h (moment n) .window) r)
+    → (n .mark ≡ mark-p and r ≡ h .stock .reference .price) or (¬ (n .mark ≡ mark-p) and IsMean (becomes machine h (moment n) .window) r)
 by-mean h n r (inl a) = inl a
 by-mean h n r (inr (inl a)) = inr ((λ z. omega (arith, a .0)), a .1 .1 .1 .0)
 by-mean h n r (inr (inr (inl a))) = inr ((λ z. omega (arith, a .0)), a .1)
@@ -82,8 +82,8 @@ one-start h (moment n) r r′ a b = go (by-mean h n r a) (by-mean h n r′ b)
     w : List Trade
     w = becomes machine h (moment n) .window
 
-    go : ((n .moment .mark ≡ mark-p and r ≡ h .stock .reference .price) or (¬ (n .moment .mark ≡ mark-p) and IsMean w r))
-        → ((n .moment .mark ≡ mark-p and r′ ≡ h .stock .reference .price) or (¬ (n .moment .mark ≡ mark-p) and IsMean w r′)) → r ≡ r′
+    go : ((n .mark ≡ mark-p and r ≡ h .stock .reference .price) or (¬ (n .mark ≡ mark-p) and IsMean w r))
+        → ((n .mark ≡ mark-p and r′ ≡ h .stock .reference .price) or (¬ (n .mark ≡ mark-p) and IsMean w r′)) → r ≡ r′
     go (inl x) (inl y) = x .1 ∙ sym (y .1)
     go (inl x) (inr y) = absurd (y .0 (x .0))
     go (inr x) (inl y) = absurd (x .0 (y .0))
@@ -133,7 +133,7 @@ best-same s s′ l t c r u e q = rw (l, t, c, r, u, e, q)
 out-of-force : (s : Stock) (n : ℕ) → stateOf s ≡ n → ¬ (n ≡ Trading) → ¬ (n ≡ Limit) → ¬ AtBand s
 out-of-force s n e t l k = go (k .1)
   where
-    go : ¬ Bands s (k .0)
+    go : ¬ HasBands s (k .0)
     go (inl b) = t (sym e ∙ b .0)
     go (inr b) = l (sym e ∙ b .0)
 

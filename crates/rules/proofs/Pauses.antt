@@ -20,6 +20,7 @@ use Rattle.rules.specs.Book.{machine, Story}
 use Rattle.rules.specs.Changes.{IsNew, StartsPause}
 use Rattle.rules.specs.Pauses.{before, InPause, PauseAt, EntersLimit, LimitSince}
 use Rattle.rules.specs.Demands.{CanHappen, DatesAre, PausesBegin}
+use Rattle.rules.specs.Words.{itsMoment}
 use Rattle.rules.specs.declared.Setup.{Setup}
 use Rattle.rules.specs.declared.Moment.{Moment}
 use Rattle.rules.specs.declared.Notice.{Notice}
@@ -99,9 +100,9 @@ next-in-limit h l =
 -- ------------------------------------------------------------------ a moment in Limit
 
 module _ (h : Whole) (n : Notice) (v : CanHappen h (moment n)) where
-  is-next : n .moment ≡ nextOf h
+  is-next : itsMoment n ≡ nextOf h
   unfolding notice
-  is-next = ap (λ n. n .moment) (v .1)
+  is-next = ap itsMoment (v .1)
 
   is-moment : IsMoment (nextOf h)
   is-moment = machineLaws .its-time (v .0 .0) h (v .0 .1) .0
@@ -118,7 +119,7 @@ module _ (h : Whole) (n : Notice) (v : CanHappen h (moment n)) where
       let x : nextOf h .mark ≡ mark-x = go (state-after h (moment n) v) in
       (at-x h is-moment x .0, at-x h is-moment x .1, x-open h is-moment x)
     where
-      mark : n .moment .mark ≡ nextOf h .mark
+      mark : n .mark ≡ nextOf h .mark
       mark = ap (λ m. m .mark) is-next
 
       which : StartsPause (moment n) → nextOf h .mark ≡ mark-x
@@ -148,7 +149,7 @@ module _ (h : Whole) (n : Notice) (v : CanHappen h (moment n)) where
   x-pauses : nextOf h .mark ≡ mark-x → stateOf (h .stock) ≡ Limit → ¬ InPause h × InPause (fire h)
   x-pauses e l = (no-pause h 2 l (λ z. omega arith) (λ z. omega arith), go (state-after h (moment n) v))
     where
-      x : n .moment .mark ≡ mark-x
+      x : n .mark ≡ mark-x
       x = ap (λ m. m .mark) is-next ∙ e
 
       go : After h (moment n) → InPause (fire h)
@@ -204,7 +205,7 @@ only-then h (moment n ∷ es) t v (inr p) =
     let r = only-then (fire h) es t (v .2) p in
     (r .0, r .1, back h (moment n) es t (r .0) v (r .1) (r .2), rw (event-end h (moment n) es v) at (r .3))
 only-then h (moment n ∷ es) t v (inl p) =
-    let d : nextOf h .time ≡ t = ap (λ n. n .moment .time) (sym (v .1)) ∙ p .0 in
+    let d : nextOf h .time ≡ t = ap (λ n. n .time) (sym (v .1)) ∙ p .0 in
     let b = begins h n (v .0, v .1, tt) (p .1 .0) (p .1 .1) in
     let u = h .stock .course .entry in (
       u,
@@ -232,10 +233,10 @@ whenever h (moment n ∷ es) T t u v q k p o =
     before-by (λ s. InLimit u (left machine h s) → PauseAt t h (moment n ∷ es)) t (moment n) es
     (λ _ l. inr (rec l)) (λ a l. now rec a l (next-in-limit h (l .0)))
   where
-    date : n .moment .time ≡ nextOf h .time
-    date = ap (λ n. n .moment .time) (v .1)
+    date : n .time ≡ nextOf h .time
+    date = ap (λ n. n .time) (v .1)
 
-    now : (InLimit u (left machine (fire h) (before t es)) → PauseAt t (fire h) es) → t ≤ n .moment .time → InLimit u h → NextInLimit h
+    now : (InLimit u (left machine (fire h) (before t es)) → PauseAt t (fire h) es) → t ≤ n .time → InLimit u h → NextInLimit h
         → PauseAt t h (moment n ∷ es)
     now rec a l c = go (c .which)
       where

@@ -12,6 +12,7 @@ use Rattle.rules.specs.Numbers.{fresh}
 use Rattle.rules.specs.Machine.{Event, message, moment, Lawful, becomes, left}
 use Rattle.rules.specs.Book.{machine, Story}
 use Rattle.rules.specs.Demands.{leaves, CanHappen, PausesEnd, NeverAgain}
+use Rattle.rules.specs.Words.{itsMoment}
 use Rattle.rules.specs.declared.Setup.{Setup}
 use Rattle.rules.specs.declared.Notice.{Notice}
 use Rattle.rules.specs.declared.Message.{Message}
@@ -30,10 +31,10 @@ abbrev Resumed : Setup → Whole → Event Message Notice → Type 0
 Resumed u h e =
     (stateOf (becomes machine h e .stock) ≡ Paused)
     ⊎ ((time price : ℕ) × (e ≡ message (R time (u .primary) price)) × (h .stock .course .pause + 300_000 ≤ time))
-    ⊎ ((n : Notice) × (e ≡ moment n) × (n .moment .mark ≡ mark-p) × (n .moment .time ≡ h .stock .course .pause + 600_000))
+    ⊎ ((n : Notice) × (e ≡ moment n) × (n .mark ≡ mark-p) × (n .time ≡ h .stock .course .pause + 600_000))
 
 by-moment : (h : Whole) (n : Notice) → CanHappen h (moment n) → stateOf (h .stock) ≡ Paused
-    → IsRow (figuresOf (h .window)) (h .stock) (n .moment) → Resumed (h .stock .setup) h (moment n)
+    → IsRow (figuresOf (h .window)) (h .stock) (itsMoment n) → Resumed (h .stock .setup) h (moment n)
 by-moment h n v s (row-z k t a) = absurd (omega arith)
 by-moment h n v s (row-w-early k t c a) = inl (quiet h n v (λ t. omega arith) mark-w k refl refl .1 ∙ s)
 by-moment h n v s (row-w-late k t c a) = inl (quiet h n v (λ t. omega arith) mark-w k refl refl .1 ∙ s)
@@ -76,7 +77,7 @@ abbrev Over : ℕ → Type 0
 Over state = (state ≡ Late) ⊎ (state ≡ Closed)
 
 late-moment : (h : Whole) (n : Notice) → CanHappen h (moment n) → stateOf (h .stock) ≡ Late
-    → IsRow (figuresOf (h .window)) (h .stock) (n .moment) → Over (stateOf (becomes machine h (moment n) .stock))
+    → IsRow (figuresOf (h .window)) (h .stock) (itsMoment n) → Over (stateOf (becomes machine h (moment n) .stock))
 late-moment h n v s (row-z k t a) = absurd (omega arith)
 late-moment h n v s (row-w-early k t c a) = inl (quiet h n v (λ t. omega arith) mark-w k refl refl .1 ∙ s)
 late-moment h n v s (row-w-late k t c a) = inl (quiet h n v (λ t. omega arith) mark-w k refl refl .1 ∙ s)
@@ -97,7 +98,7 @@ late-event h (message (X time participant price)) v s = inr (closed-by h (messag
 late-event h (moment n) v s = late-moment h n v s (notice-row h n v)
 
 -- nothing happens in Closed
-closed-moment : (h : Whole) (n : Notice) → stateOf (h .stock) ≡ Closed → ¬ IsRow (figuresOf (h .window)) (h .stock) (n .moment)
+closed-moment : (h : Whole) (n : Notice) → stateOf (h .stock) ≡ Closed → ¬ IsRow (figuresOf (h .window)) (h .stock) (itsMoment n)
 closed-moment h n s (row-z k t a) = omega arith
 closed-moment h n s (row-w-early k t c a) = omega arith
 closed-moment h n s (row-w-late k t c a) = omega arith

@@ -19,7 +19,7 @@ use Rattle.rules.specs.declared.Reference.{Reference}
 use Rattle.rules.proofs.After.{waited}
 use Rattle.rules.proofs.Changed.{reference}
 use Rattle.rules.proofs.Events.{first-lawful, rest-lawful}
-use Rattle.rules.proofs.Sound.{Sane, started-price, event-sane, sane-left, fresh-sane}
+use Rattle.rules.proofs.Sound.{Sane, started-price, sane-left, fresh-sane}
 
 -- a reference with the price and the start of another, whose hold has not begun again
 abbrev Keeps : Reference → Reference → Type 0
@@ -53,10 +53,9 @@ pub of-fields : {price start hold : ℕ} (r : Reference) → r .price ≡ price 
 of-fields r p s h = rw (← p, ← s, ← h)
 
 -- the price of a reference that was started is one
-priced : (h : Whole) (es : Story) (price start : ℕ) → Lawful machine h es → Sane h → StartedBy price start h es → 1 ≤ price
-priced h (e ∷ es) price start v i (inl k) = started-price h e price (first-lawful h e es v) i (k .1) .0
-priced h (e ∷ es) price start v i (inr k) =
-    priced (becomes machine h e) es price start (rest-lawful h e es v) (event-sane h e (first-lawful h e es v) i) k
+priced : (h : Whole) (es : Story) (price start : ℕ) → Lawful machine h es → StartedBy price start h es → 1 ≤ price
+priced h (e ∷ es) price start v (inl k) = started-price h e price (first-lawful h e es v) (k .1) .0
+priced h (e ∷ es) price start v (inr k) = priced (becomes machine h e) es price start (rest-lawful h e es v) k
 
 -- a stock that is still Waiting: no event has started a reference
 none-waiting : (h : Whole) (es : Story) → Lawful machine h es → stateOf (left machine h es .stock) ≡ Waiting → NoneStarted h es × (stateOf (h .stock) ≡ Waiting)
@@ -99,6 +98,6 @@ reference-since end u es a = go (lasted (fresh end u) es (a .lawful))
     go (inl k) = inl (k .0, of-fields r (k .1 .0) (k .1 .1) (k .1 .2 refl), idle (k .1 .0))
     go (inr k) = inr (
       k,
-      priced (fresh end u) es (r .price) (r .start) (a .lawful) sane k,
+      priced (fresh end u) es (r .price) (r .start) (a .lawful) k,
       λ w. started-once (fresh end u) es (r .price) (r .start) (none-waiting (fresh end u) es (a .lawful) w .0) k,
     )

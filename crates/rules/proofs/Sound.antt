@@ -16,7 +16,7 @@ use Rattle.rules.specs.Messages.{letter-T, letter-Q, letter-O, letter-P,
 use Rattle.rules.specs.Numbers.{settles, notice, fresh}
 use Rattle.rules.specs.Machine.{Every, Event, message, moment, dated, Lawful, becomes, left}
 use Rattle.rules.specs.Book.{machine, Story}
-use Rattle.rules.specs.Words.{IsPrice, IsSide, IsEnd, IsSetup, sumOf, IsMean, Coming, moments, IsFirst, BadTime, BadReference, BadStock, Rubbish}
+use Rattle.rules.specs.Words.{IsPrice, IsSide, IsEnd, IsSetup, sumOf, IsMean, Coming, moments, IsFirst, BadTime, BadReference, BadStock, Rubbish, itsMoment}
 use Rattle.rules.specs.Changes.{IsNew, joins, recent, quoteBy, Quoted, TradesAfter, Starts, StartsOne, ReferenceAfter, StartsPause, Looks, KeptAfter}
 use Rattle.rules.specs.Demands.{leaves, CanHappen, NeverRubbish}
 use Rattle.rules.specs.declared.Setup.{Setup}
@@ -33,8 +33,8 @@ use Rattle.rules.proofs.Events.{first-lawful, rest-lawful, event-forwar
 use Rattle.rules.proofs.Last.{quotes}
 use Rattle.rules.proofs.Numbers.{taken-words}
 use Rattle.rules.proofs.Ranges.{in-price, in-side}
-use Rattle.rules.proofs.Timely.{Timely, timely-left, fresh-timely}
-use Rattle.rules.proofs.Window.{InOrder, wider-in-order, joined-in-order, trades-clean, recent-in-order, trades as trades-are}
+use Rattle.rules.proofs.Timely.{Timely, sound, timely-left, fresh-timely}
+use Rattle.rules.proofs.Window.{InOrder, wider-in-order, joined-in-order, trades-clean, window-in-order, recent-in-order, trades as trades-are}
 
 -- ------------------------------------------------------------------ a stock in range
 
@@ -50,17 +50,37 @@ pub record Ranges (s : Stock) : Type 0 where
   pub pause-by : s .course .pause ≤ clockOf s
   pub price-by : IsSide (s .reference .price)
 
+pub record SaneQuotes (q : Quotes) : Type 0 where
+  pub sixteen : (length (q .bids) ≡ 16) × (length (q .offers) ≡ 16)
+  pub sides : Every IsSide (q .bids) × Every IsSide (q .offers)
+
 pub record SaneStock (s : Stock) : Type 0 where
   pub ranges : Ranges s
   pub priced : 1 ≤ stateOf s → stateOf s ≤ Late → 1 ≤ s .reference .price
-  pub sixteen : (length (s .quotes .bids) ≡ 16) × (length (s .quotes .offers) ≡ 16)
-  pub sides : Every IsSide (s .quotes .bids) × Every IsSide (s .quotes .offers)
+  pub quotes : SaneQuotes (s .quotes)
 
 pub record Sane (h : Whole) : Type 0 where
   pub setup-ok : IsSetup (h .stock .setup)
   pub end-ok : IsEnd (h .stock .end)
   pub stock : SaneStock (h .stock)
   pub window : SaneWindow (clockOf (h .stock)) (h .window)
+
+-- ------------------------------------------------------------------ what check 1 lets pass is in range
+
+abbrev Live : Stock → Type 0
+Live s = (1 ≤ stateOf s) × (stateOf s ≤ Late)
+
+module _ (h : Whole) (n : ¬ Rubbish h) where
+  pub window-found : SaneWindow (clockOf (h .stock)) (h .window)
+  window-found = let few : ¬ (512 < length (h .window)) = λ l. n (inr (inl l)) in record { count = omega arith; in-order = window-in-order h n }
+
+  pub price-found : IsSide (h .stock .reference .price)
+  price-found = in-side _ (λ k. n (inl (inr (inr (inr (inr (inr (inl (inl k)))))))))
+
+  own-price : Live (h .stock) → IsPrice (h .stock .reference .price)
+  own-price l =
+      let some : ¬ (h .stock .reference .price ≡ 0) = λ z. n (inl (inr (inr (inr (inr (inr (inl (inr (z, l))))))))) in
+      (omega arith, price-found)
 
 -- ------------------------------------------------------------------ the window
 
@@ -96,8 +116,8 @@ opening-price price k = in-price price (λ n. k (inr (inl n)))
 one-trade : (time price : ℕ) → IsPrice price → SaneWindow time (record { at = time; price = price } ∷ [])
 one-trade time price p = record { count = omega arith; in-order = (p, omega arith, le-refl _, tt) }
 
-joins-sane : (h : Whole) (e : Event Message Notice) → CanHappen h e → Sane h → SaneWindow (dated machine e) (joins (h .window) e)
-joins-sane h (message (T time price)) v i =
+joins-sane : (h : Whole) (e : Event Message Notice) → CanHappen h e → SaneWindow (dated machine e) (joins (h .window) e)
+joins-sane h (message (T time price)) v =
     let k = taken-words (T time price) h (v .0) in
     let a = past 7 0 _ _ (λ z. omega arith) (k .own-passed) in
     let b = past 11 0 _ _ (λ z. omega arith) (a .1) in
@@ -105,59 +125,65 @@ joins-sane h (message (T time price)) v i =
     let room = past 13 0 _ _ (λ z. omega arith) (c .1) .0 in
     let t : Trade = record { at = time; price = price } in record {
       count = omega (arith, length-append (h .window) (t ∷ []));
-      in-order = joined-in-order 0 _ t (h .window) (omega arith) (event-forward h (message (T time price)) [] v) (in-price price (λ n. k .in-range (inl n))) (i .window .in-order);
+      in-order = joined-in-order 0 _ t (h .window) (omega arith) (event-forward h (message (T time price)) [] v) (in-price price (λ n. k .in-range (inl n))) (window-in-order h (k .sound));
     }
-joins-sane h (message (Q time participant bid offer)) v i = later _ _ _ (event-forward h (message (Q time participant bid offer)) [] v) (i .window)
-joins-sane h (message (O time participant price)) v i = one-trade time price (opening-price price (taken-words (O time participant price) h (v .0) .in-range))
-joins-sane h (message (P time participant)) v i = later _ _ _ (event-forward h (message (P time participant)) [] v) (i .window)
-joins-sane h (message (R time participant price)) v i = one-trade time price (opening-price price (taken-words (R time participant price) h (v .0) .in-range))
-joins-sane h (message (X time participant price)) v i = empty time
-joins-sane h (moment n) v i = if-arms (SaneWindow _) _ (λ _. empty _) (λ _. later _ _ _ (event-forward h (moment n) [] v) (i .window))
+joins-sane h (message (Q time participant bid offer)) v =
+    later _ _ _ (event-forward h (message (Q time participant bid offer)) [] v) (window-found h (sound h (message (Q time participant bid offer)) v))
+joins-sane h (message (O time participant price)) v = one-trade time price (opening-price price (taken-words (O time participant price) h (v .0) .in-range))
+joins-sane h (message (P time participant)) v =
+    later _ _ _ (event-forward h (message (P time participant)) [] v) (window-found h (sound h (message (P time participant)) v))
+joins-sane h (message (R time participant price)) v = one-trade time price (opening-price price (taken-words (R time participant price) h (v .0) .in-range))
+joins-sane h (message (X time participant price)) v = empty time
+joins-sane h (moment n) v =
+    if-arms (SaneWindow _) _ (λ _. empty _) (λ _. later _ _ _ (event-forward h (moment n) [] v) (window-found h (sound h (moment n) v)))
 
-window-sane : (h : Whole) (e : Event Message Notice) → CanHappen h e → Sane h → SaneWindow (dated machine e) (becomes machine h e .window)
-window-sane h e v i = go (trades-are h e v)
+window-sane : (h : Whole) (e : Event Message Notice) → CanHappen h e → SaneWindow (dated machine e) (becomes machine h e .window)
+window-sane h e v = go (trades-are h e v)
   where
     t : ℕ
     t = dated machine e
 
     recent-sane : SaneWindow t (recent t (h .window))
     recent-sane =
-        let k = recent-in-order t 0 _ (h .window) (i .window .in-order) in
-        later _ _ _ (event-forward h e [] v) (record { count = omega (arith, i .window .count, k .1); in-order = k .0 })
+        let i = window-found h (sound h e v) in
+        let k = recent-in-order t 0 _ (h .window) (i .in-order) in
+        later _ _ _ (event-forward h e [] v) (record { count = omega (arith, i .count, k .1); in-order = k .0 })
 
     go : TradesAfter h e (becomes machine h e .window) → SaneWindow t (becomes machine h e .window)
     go (inl (_, q)) = subst (SaneWindow t) (sym q) recent-sane
-    go (inr (_, q)) = subst (SaneWindow t) (sym q) (joins-sane h e v i)
+    go (inr (_, q)) = subst (SaneWindow t) (sym q) (joins-sane h e v)
 
 -- ------------------------------------------------------------------ and the reference, which is a price in states 1 to 4
 
-abbrev Live : Stock → Type 0
-Live s = (1 ≤ stateOf s) × (stateOf s ≤ Late)
-
-own-price : (s : Stock) → SaneStock s → Live s → IsPrice (s .reference .price)
-own-price s i l = (i .priced (l .0) (l .1), i .ranges .price-by)
-
 -- each row of the moment's mark, where it is still to come, has A
-abbrev Each : Type 0 → Moment → List Coming → Type 0
+abbrev pub Each : Type 0 → Moment → List Coming → Type 0
 Each A m [] = Unit {0}
 Each A m (c ∷ cs) = (m .mark ≡ c .mark → c .comes → A) × Each A m cs
 
-by-mark : (A : Type 0) (m : Moment) (cs : List Coming) → IsFirst m cs → Each A m cs → A
+pub by-mark : (A : Type 0) (m : Moment) (cs : List Coming) → IsFirst m cs → Each A m cs → A
 by-mark A m (c ∷ cs) (inl f) k = k .0 (f .1 .0) (f .0)
 by-mark A m (c ∷ cs) (inr f) k = by-mark A m cs (f .1) (k .1)
 
 -- a mean of the window that the event leaves, a message's own price, or the old one: a Limit is left by Q, and p comes in Paused
-pub started-price : (h : Whole) (e : Event Message Notice) (r : ℕ) → CanHappen h e → Sane h → Starts h e r → IsPrice r
-started-price h (message (T time price)) r v i (inl k) = mean-priced _ r _ (window-sane h (message (T time price)) v i) (k .1 .1)
-started-price h (message (T time price)) r v i (inr k) = mean-priced _ r _ (window-sane h (message (T time price)) v i) (k .1 .1 .0)
-started-price h (message (Q time participant bid offer)) r v i (l, inl k) = mean-priced _ r _ (window-sane h (message (Q time participant bid offer)) v i) k
-started-price h (message (Q time participant bid offer)) r v i (l, inr k) = let s = l .0 in rw (k .1) (own-price (h .stock) (i .stock) (omega arith))
-started-price h (message (O time participant price)) r v i q = rw q (opening-price price (taken-words (O time participant price) h (v .0) .in-range))
-started-price h (message (R time participant price)) r v i q = rw q (opening-price price (taken-words (R time participant price) h (v .0) .in-range))
-started-price h (moment n) r v i (inl (m, q)) = rw q (own-price (h .stock) (i .stock) (by-mark _ (n .moment) (moments h) (moments-are h n v) (omega arith)))
-started-price h (moment n) r v i (inr (inl k)) = mean-priced _ r _ (window-sane h (moment n) v i) (k .1 .1 .1 .0)
-started-price h (moment n) r v i (inr (inr (inl k))) = mean-priced _ r _ (window-sane h (moment n) v i) (k .1)
-started-price h (moment n) r v i (inr (inr (inr k))) = mean-priced _ r _ (window-sane h (moment n) v i) (k .1 .1 .1 .0)
+pub started-price : (h : Whole) (e : Event Message Notice) (r : ℕ) → CanHappen h e → Starts h e r → IsPrice r
+started-price h (message (T time price)) r v (inl k) = mean-priced _ r _ (window-sane h (message (T time price)) v) (k .1 .1)
+started-price h (message (T time price)) r v (inr k) = mean-priced _ r _ (window-sane h (message (T time price)) v) (k .1 .1 .0)
+started-price h (message (Q time participant bid offer)) r v (l, inl k) = mean-priced _ r _ (window-sane h (message (Q time participant bid offer)) v) k
+started-price h (message (Q time participant bid offer)) r v (l, inr k) = let s = l .0 in rw (k .1) (own-price h (sound h (message (Q time participant bid offer)) v) (omega arith))
+started-price h (message (O time participant price)) r v q = rw q (opening-price price (taken-words (O time participant price) h (v .0) .in-range))
+started-price h (message (R time participant price)) r v q = rw q (opening-price price (taken-words (R time participant price) h (v .0) .in-range))
+started-price h (moment n) r v (inl (m, q)) = rw q (own-price h (sound h (moment n) v) (by-mark _ (itsMoment n) (moments h) (moments-are h n v) (omega arith)))
+started-price h (moment n) r v (inr (inl k)) = mean-priced _ r _ (window-sane h (moment n) v) (k .1 .1 .1 .0)
+started-price h (moment n) r v (inr (inr (inl k))) = mean-priced _ r _ (window-sane h (moment n) v) (k .1)
+started-price h (moment n) r v (inr (inr (inr k))) = mean-priced _ r _ (window-sane h (moment n) v) (k .1 .1 .1 .0)
+
+-- so a reference is in range after every event
+pub price-after : (h : Whole) (e : Event Message Notice) → CanHappen h e → IsSide (becomes machine h e .stock .reference .price)
+price-after h e v = go (reference h e v)
+  where
+    go : ReferenceAfter h e (becomes machine h e .stock) → IsSide (becomes machine h e .stock .reference .price)
+    go (inl (s, _)) = started-price h e _ v s .1
+    go (inr (_, (p, _))) = omega (arith, p, price-found h (sound h e v))
 
 -- P comes in Trading, and x in Limit
 pauses-live : (h : Whole) (e : Event Message Notice) → CanHappen h e → StartsPause e → Live (h .stock)
@@ -171,11 +197,11 @@ pauses-live h (message (P time participant)) v k =
     omega arith
 pauses-live h (message (R time participant price)) v k = absurd (not-among (letter-P ∷ mark-x ∷ []) _ letter-R refl refl k)
 pauses-live h (message (X time participant price)) v k = absurd (not-among (letter-P ∷ mark-x ∷ []) _ letter-X refl refl k)
-pauses-live h (moment n) v (inl q) = by-mark _ (n .moment) (moments h) (moments-are h n v) (omega arith)
-pauses-live h (moment n) v (inr (inl q)) = by-mark _ (n .moment) (moments h) (moments-are h n v) (omega arith)
+pauses-live h (moment n) v (inl q) = by-mark _ (itsMoment n) (moments h) (moments-are h n v) (omega arith)
+pauses-live h (moment n) v (inr (inl q)) = by-mark _ (itsMoment n) (moments h) (moments-are h n v) (omega arith)
 
 -- without a new reference a state from 1 to 4 comes from one of them
-state-sane : (h : Whole) (e : Event Message Notice) → CanHappen h e → stateOf (h .stock) ≤ Closed
+pub state-sane : (h : Whole) (e : Event Message Notice) → CanHappen h e → stateOf (h .stock) ≤ Closed
     → let s′ = becomes machine h e .stock in (stateOf s′ ≤ Closed) × (¬ StartsOne h e → Live s′ → Live (h .stock))
 state-sane h e v l = go (state-after h e v)
   where
@@ -225,7 +251,7 @@ quote-side h (message (R time participant price)) v i last a = a
 quote-side h (message (X time participant price)) v i last a = (omega arith, omega arith)
 quote-side h (moment n) v i last a = if-arms Both _ (λ _. (omega arith, omega arith)) (λ _. a)
 
-module _ (h : Whole) (e : Event Message Notice) (v : CanHappen h e) (i : SaneStock (h .stock)) where
+module _ (h : Whole) (e : Event Message Notice) (v : CanHappen h e) (i : SaneQuotes (h .stock .quotes)) where
   abbrev quotes-then : Quotes
   quotes-then = becomes machine h e .stock .quotes
 
@@ -245,6 +271,9 @@ module _ (h : Whole) (e : Event Message Notice) (v : CanHappen h e) (i : SaneSto
       in-range : (j : ℕ) → Both (quoteBy j (getD (h .stock .quotes .bids) j 0, getD (h .stock .quotes .offers) j 0) e)
       in-range j = quote-side h e v j _ (side-at (h .stock .quotes .bids) j (i .sides .0), side-at (h .stock .quotes .offers) j (i .sides .1))
 
+  pub quotes-sane : SaneQuotes quotes-then
+  quotes-sane = record { sixteen = sixteen-then; sides = sides-then }
+
 -- what is new, or as before, is not after the clock
 by-clock : (A : Type 0) (now new before clock : ℕ) → IsNew A now new before → new ≤ clock → before ≤ clock → now ≤ clock
 by-clock A now new before clock (inl k) a b = omega (arith, k .1)
@@ -260,13 +289,12 @@ event-sane h e v i = let f = from-reference (reference h e v) in record {
       start-by = f .0;
       entry-by = by-clock _ _ _ _ _ (k .1 .1 .1 .0) (omega (arith, k .0)) (omega (arith, r .entry-by, on));
       pause-by = by-clock _ _ _ _ _ (k .1 .1 .1 .1 .0) (omega (arith, k .0)) (omega (arith, r .pause-by, on));
-      price-by = f .1;
+      price-by = price-after h e v;
     };
-    priced = λ a b. f .2 (a, b);
-    sixteen = sixteen-then h e v (i .stock);
-    sides = sides-then h e v (i .stock);
+    priced = λ a b. f .1 (a, b);
+    quotes = quotes-sane h e v (i .stock .quotes);
   };
-  window = subst (λ c. SaneWindow c (h′ .window)) (sym (k .0)) (window-sane h e v i);
+  window = subst (λ c. SaneWindow c (h′ .window)) (sym (k .0)) (window-sane h e v);
 }
   where
     h′ : Whole
@@ -285,11 +313,10 @@ event-sane h e v i = let f = from-reference (reference h e v) in record {
     on = omega (arith, k .0, event-forward h e [] v)
 
     from-reference : ReferenceAfter h e (h′ .stock)
-        → (h′ .stock .reference .start ≤ clockOf (h′ .stock)) × IsSide (h′ .stock .reference .price) × (Live (h′ .stock) → 1 ≤ h′ .stock .reference .price)
-    from-reference (inl (s, (d, _))) = let p = started-price h e _ v i s in (omega (arith, d, k .0), p .1, λ _. p .0)
+        → (h′ .stock .reference .start ≤ clockOf (h′ .stock)) × (Live (h′ .stock) → 1 ≤ h′ .stock .reference .price)
+    from-reference (inl (s, (d, _))) = (omega (arith, d, k .0), λ _. started-price h e _ v s .0)
     from-reference (inr (n, (p, (d, _)))) = (
       omega (arith, d, r .start-by, on),
-      omega (arith, p, r .price-by),
       λ l. let w = state .1 n l in omega (arith, p, i .stock .priced (w .0) (w .1)),
     )
 
@@ -307,7 +334,7 @@ unfolding fresh
 fresh-sane end u e b = record {
   setup-ok = b;
   end-ok = e;
-  stock = record { ranges = omega arith; priced = omega arith; sixteen = (refl, refl); sides = (all-zero 16, all-zero 16) };
+  stock = record { ranges = omega arith; priced = omega arith; quotes = record { sixteen = (refl, refl); sides = (all-zero 16, all-zero 16) } };
   window = empty 0;
 }
 
@@ -345,7 +372,7 @@ stock-clean h i j = go
     go (inr (inl n)) = n (i .setup-ok)
     go (inr (inr (inl n))) = n (i .end-ok)
     go (inr (inr (inr (inl b)))) = times b
-    go (inr (inr (inr (inr (inl b))))) = ⊎-elim (sides-clean (s .quotes .bids) (i .stock .sides .0)) (sides-clean (s .quotes .offers) (i .stock .sides .1)) b
+    go (inr (inr (inr (inr (inl b))))) = ⊎-elim (sides-clean (s .quotes .bids) (i .stock .quotes .sides .0)) (sides-clean (s .quotes .offers) (i .stock .quotes .sides .1)) b
     go (inr (inr (inr (inr (inr (inl b)))))) = reference b
     go (inr (inr (inr (inr (inr (inr k)))))) = omega (arith, k .1, j .p-by-end (k .0))
 

@@ -18,9 +18,8 @@ use Rattle.rules.specs.Machine.{Call, tell, settle, On, of, number, done
 use Rattle.rules.specs.Book.{machine, blank, book, now, story}
 use Rattle.rules.specs.Demands.{CallsStep, StoriesGrow}
 use Rattle.rules.specs.declared.Message.{Message}
-use Rattle.rules.proofs.Alike.{of-append, length-step}
+use Rattle.rules.proofs.Alike.{of-append, length-step, length-run}
 use Rattle.rules.proofs.Answers.{calls-leave}
-use Rattle.rules.proofs.Lawful.{machineLaws}
 
 -- ------------------------------------------------------------------ a call
 
@@ -43,11 +42,11 @@ pub calls-step : CallsStep
 unfolding stepIn
 calls-step end b i = (
   (λ m. (
-    length-step machine machineLaws (blank end) b _,
+    length-step machine (blank end) b _,
     λ l. go (record { at = i; it = tell m }) l (calls-leave (stock machine (blank end) b i) .0 m) (either-way _ (by-eq _ 0)),
   )),
   (λ time. (
-    length-step machine machineLaws (blank end) b _,
+    length-step machine (blank end) b _,
     λ l. go (record { at = i; it = settle time }) l
         ((λ e. calls-leave (stock machine (blank end) b i) .1 time .0 e .0), calls-leave (stock machine (blank end) b i) .1 time .1)
         (either-way _ (by-eq _ 0)),
@@ -62,10 +61,6 @@ calls-step end b i = (
     go c l k (inr n) = rw (if-false _ _ _ (refused end b c l n)) (sym (k .1 n))
 
 -- ------------------------------------------------------------------ a story
-
-length-run : (end : ℕ) (b : List Whole) (cs : Calls machine) → length (run machine (blank end) b cs) ≡ length b
-length-run end b [] = refl
-length-run end b (c ∷ cs) = length-run end (stepIn machine (blank end) b c) cs ∙ length-step machine machineLaws (blank end) b c
 
 pub stories-grow : StoriesGrow
 unfolding happens of
@@ -84,7 +79,7 @@ stories-grow end us = (
     there cs = run machine (blank end) (book end us) cs
 
     in-book : (cs : Calls machine) (c : On (Call Message)) → c .at < length us → c .at < length (there cs)
-    in-book cs c l = rw (length-run end (book end us) cs ∙ length-map us (fresh end)) l
+    in-book cs c l = rw (length-run machine (blank end) (book end us) cs ∙ length-map us (fresh end)) l
 
     -- the call named the stock and was accepted
     Its : ℕ → Calls machine → On (Call Message) → Type 0

@@ -15,7 +15,7 @@ use Rattle.rules.specs.Messages.{letter-T, letter-Q, letter-O, letter-P,
 use Rattle.rules.specs.Numbers.{settles, notice, fresh}
 use Rattle.rules.specs.Machine.{Event, message, moment, dated, Lawful, becomes, left}
 use Rattle.rules.specs.Book.{machine, Story}
-use Rattle.rules.specs.Words.{Coming, Comes as Ahead, oldestAt, moments, Rubbish}
+use Rattle.rules.specs.Words.{Coming, Comes as Ahead, oldestAt, moments, Rubbish, itsMoment}
 use Rattle.rules.specs.Changes.{letterOf, IsNew, joins, recent, TradesAfter, StartsOne, ReferenceAfter, StartsPause}
 use Rattle.rules.specs.Demands.{CanHappen}
 use Rattle.rules.specs.declared.Setup.{Setup}
@@ -80,14 +80,14 @@ not-waiting h (moment n) v (inr (inr k)) = absurd k
 -- ------------------------------------------------------------------ what an event finds
 
 -- checked before anything happens
-sound : (h : Whole) (e : Event Message Notice) → CanHappen h e → ¬ Rubbish h
+pub sound : (h : Whole) (e : Event Message Notice) → CanHappen h e → ¬ Rubbish h
 sound h (message m) v = taken-words m h (v .0) .sound
 sound h (moment n) v = settled-sound (v .0 .0) h (v .0 .1)
 
 -- the event is not after a moment still to come
 not-after : (h : Whole) (e : Event Message Notice) → CanHappen h e → ¬ Ahead (λ time. time < dated machine e) (moments h)
 not-after h (message m) v k = taken-words m h (v .0) .none-due (weaker (λ t. t < timeOf m) (λ t. t ≤ timeOf m) (moments h) (λ t l. omega arith) k)
-not-after h (moment n) v k = none-before (n .moment) (moments h) (moments-are h n v) k
+not-after h (moment n) v k = none-before (itsMoment n) (moments h) (moments-are h n v) k
 
 -- ------------------------------------------------------------------ the oldest trade
 
@@ -109,7 +109,7 @@ oldest-joins (message (P time participant)) w k n = k n
 oldest-joins (message (R time participant price)) w k n = omega arith
 oldest-joins (message (X time participant price)) w k n = absurd (n refl)
 oldest-joins (moment m) w k n =
-    if-arms (λ v. ¬ (length v ≡ 0) → m .moment .time ≤ oldestAt v + 300_000) _ (λ _ z. absurd (z refl)) (λ _. k) n
+    if-arms (λ v. ¬ (length v ≡ 0) → m .time ≤ oldestAt v + 300_000) _ (λ _ z. absurd (z refl)) (λ _. k) n
 
 -- ------------------------------------------------------------------ an event leaves it so
 
@@ -148,7 +148,7 @@ module _ (h : Whole) (e : Event Message Notice) (v : CanHappen h e) where
       not-after h e v (inr (inr (inr (inr (inl (p, omega (arith, p-before-end p))))))))
 
   -- c is the last
-  until-last : date ≤ s .end + 300_000
+  pub until-last : date ≤ s .end + 300_000
   until-last = at-most (λ l.
       let c : ¬ (stateOf s ≡ Late) = λ q. not-after h e v (inr (inr (inr (inr (inr (inl (q, l))))))) in
       omega (arith, until-end (omega (arith, awake))))

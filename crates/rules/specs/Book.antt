@@ -1,20 +1,21 @@
 -- The stock of the rules as a machine, and the book that a setup starts (document 01, "What the book holds").
 -- Assumes nothing.
 use Prim.Native.Nat.{ℕ, _*_}
-use mathlib.Core.List.{List, map}
+use mathlib.Core.List.{List, [], map}
 use mathlib.Core.Path.{_≡_}
 use lib.Dec.{eqb}
 use lib.ListN.{length}
 use Rattle.forms.specs.Choice.{if_then_else_}
 use Rattle.forms.specs.Checks.{first}
 use Rattle.rules.specs.Stock.{Whole, clockOf}
-use Rattle.rules.specs.Moments.{no-moment, nextOf, fire}
+use Rattle.rules.specs.Moments.{nextOf, fire}
 use Rattle.rules.specs.Messages.{timeOf, after}
-use Rattle.rules.specs.Numbers.{callChecks, tells, settles, zeros, notice, tellAnswer, settleAnswer, readAnswer, fresh, setsUp}
-use Rattle.rules.specs.Machine.{Machine, Event, of, Calls, stock, run, log, SettledTo}
+use Rattle.rules.specs.Numbers.{callChecks, tells, settles, zeros, notice, tellAnswer, settleAnswer, readAnswer, fresh, setsUp, noNotice, noneComing, nextAnswer}
+use Rattle.rules.specs.Machine.{Machine, Event, of, journal, Asked, numberOf, Calls, stock, run, log, asked, SettledTo}
 use Rattle.rules.specs.declared.Setup.{Setup}
 use Rattle.rules.specs.declared.Answer.{Answer}
 use Rattle.rules.specs.declared.Notice.{Notice}
+use Rattle.rules.specs.declared.Upcoming.{Upcoming}
 use Rattle.rules.specs.declared.Message.{Message}
 
 -- the rules as a machine
@@ -24,7 +25,7 @@ machine = record {
   Message = Message;
   Notice = Notice;
   time = timeOf;
-  date = λ n. n .moment .time;
+  date = λ n. n .time;
   clock = λ h. clockOf (h .stock);
   Due = λ h d. (nextOf h .mark ≡ 0 → ⊥) × (nextOf h .time ≡ d);
   tells = tells;
@@ -40,7 +41,7 @@ Story = List (Event Message Notice)
 
 -- ------------------------------------------------------------------ "What the book holds": the book after a setup and calls
 
--- the setup is accepted: of a book of as many stocks as there are setups, with their places
+-- the setup is accepted by a book with a stock for each setup, and with their places
 abbrev pub Accepted : ℕ → List Setup → Type 0
 Accepted end us = setsUp (length us) (512 * length us) (512 * length us) end us ≡ 0
 
@@ -65,24 +66,38 @@ module _ (end : ℕ) where
   abbrev pub story : List Setup → Calls machine → ℕ → Story
   story us cs i = of i (log machine blank (book us) cs)
 
+  -- the calls of ds on the stock i, made after cs, each with the stock that it found
+  abbrev pub askedOf : List Setup → (cs ds : Calls machine) → ℕ → List (Asked machine)
+  askedOf us cs ds i = of i (asked machine blank (run machine blank (book us) cs) ds)
+
+  -- the journal of the stock i: the calls on it that were answered 0
+  abbrev pub journalOf : List Setup → Calls machine → ℕ → List (Asked machine)
+  journalOf us cs i = journal (numberOf machine) (askedOf us [] cs i)
+
   -- the book is settled to T, and no stock of it beyond
   abbrev pub Settled : ℕ → List Setup → Calls machine → Type 0
   Settled T us cs = SettledTo machine blank T (book us) cs
 
-  -- what a book of so many places answers a call on the stock i: 1 and 3 with zeros, and beyond these checks what the stock answers
+  -- the answer of a book with so many places to a message for the stock i: 1 or 3 with zeros by the first checks, else the answer of the stock
   unfoldable pub bookTells : List Whole → (times prices i : ℕ) → Message → Answer
   bookTells b times prices i m =
       let number = first (callChecks (length b) times prices i) in
       if eqb number 0 then tellAnswer m (stock machine blank b i) else zeros number
 
-  -- settling, likewise, with no moment beside the zeros
+  -- the answer to settling the stock i: 1 or 3 with zeros and no moment by the first checks, else the answer of the stock
   unfoldable pub bookSettles : List Whole → (times prices i : ℕ) → ℕ → Notice
   bookSettles b times prices i time =
       let number = first (callChecks (length b) times prices i) in
-      if eqb number 0 then settleAnswer time (stock machine blank b i) else record { answer = zeros number; moment = no-moment }
+      if eqb number 0 then settleAnswer time (stock machine blank b i) else noNotice number
 
-  -- reading, likewise
+  -- the answer to reading the stock i: 1 or 3 with zeros by the first checks, else the answer of the stock
   unfoldable pub bookReads : List Whole → (times prices i : ℕ) → Answer
   bookReads b times prices i =
       let number = first (callChecks (length b) times prices i) in
       if eqb number 0 then readAnswer (stock machine blank b i) else zeros number
+
+  -- the answer to asking what comes next of the stock i: 1 or 3 with no moment by the first checks, else the answer of the stock
+  unfoldable pub bookNext : List Whole → (times prices i : ℕ) → Upcoming
+  bookNext b times prices i =
+      let number = first (callChecks (length b) times prices i) in
+      if eqb number 0 then nextAnswer (stock machine blank b i) else noneComing number

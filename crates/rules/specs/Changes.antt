@@ -1,8 +1,8 @@
--- Document 01 in words: what an event changes, and what it leaves ("States", "Moments", "Messages"). An event is a message that was
--- accepted or a moment that happened; h is the stock that it comes to, and s′ the stock that it leaves. No test of the rules is asked;
--- windows and quotes are worked out by functions of this file. Where a reference starts, the window that the event leaves is the rules', which
--- `trades` says in words, and `with-quotes` is the rules' setter. The demands `trades`, `quotes`, `reference`, `states` and `kept` say that each
--- event does this, and `changes-only` that together they leave nothing of a stock open. Words.antt says how to read it.
+-- What an event changes and what it keeps, in words (document 01, "States", "Moments", "Messages"). An event is a message that was accepted or a
+-- moment that happened; h is the stock before it, and s′ the stock after it. No test of the rules is used: functions of this file compute windows
+-- and quotes. Two things come from the rules: the window at an event that starts a reference, which `trades` states in words, and the setter
+-- `with-quotes`. The demands `trades`, `quotes`, `reference`, `states` and `kept` say that each event does this, and `changes-only` says that
+-- together they determine the stock. Words.antt says how to read it.
 -- Assumes nothing.
 use Prim.Native.Nat.{ℕ, _+_, _-_, _≤_}
 use mathlib.Core.Bool.{Bool}
@@ -33,12 +33,12 @@ letterOf (message (O time participant price)) = letter-O
 letterOf (message (P time participant)) = letter-P
 letterOf (message (R time participant price)) = letter-R
 letterOf (message (X time participant price)) = letter-X
-letterOf (moment n) = n .moment .mark
+letterOf (moment n) = n .mark
 
--- its date: the time that a message names, and a moment's own
+-- an event's date: the time that a message names, or a moment's own time
 abbrev pub dateOf : Event Message Notice → ℕ
 dateOf (message m) = timeIn m
-dateOf (moment n) = n .moment .time
+dateOf (moment n) = n .time
 
 -- `now` is `new` where the words hold, and `before` where they do not
 abbrev pub IsNew : {A : Type 0} → Type 0 → A → A → A → Type 0
@@ -50,7 +50,7 @@ IsNew Words now new before = (Words and now ≡ new) or (¬ Words and now ≡ be
 abbrev pub closingMark : ℕ → Bool
 closingMark mark = anyOf (eqb mark mark-z ∷ eqb mark mark-c ∷ [])
 
--- T joins the trades w; O and R make them its price alone, dated by the message; closing empties them
+-- the trades w after an event: T adds a trade, O and R leave only their own price with the message's time, and closing leaves none
 abbrev pub joins : List Trade → Event Message Notice → List Trade
 joins w (message (T time price)) = w ++ (record { at = time; price = price } ∷ [])
 joins w (message (Q time participant bid offer)) = w
@@ -58,9 +58,9 @@ joins w (message (O time participant price)) = record { at = time; price = price
 joins w (message (P time participant)) = w
 joins w (message (R time participant price)) = record { at = time; price = price } ∷ []
 joins w (message (X time participant price)) = []
-joins w (moment n) = if closingMark (n .moment .mark) then [] else w
+joins w (moment n) = if closingMark (n .mark) then [] else w
 
--- of trades those that have not left at `time`: a trade of time u leaves at u + 300,000
+-- the trades that have not left at `time`: each stays for 300,000
 unfoldable pub recent : ℕ → List Trade → List Trade
 recent time [] = []
 recent time (t ∷ ts) = if ltb time (t .at + 300_000) then t ∷ recent time ts else recent time ts
@@ -71,7 +71,7 @@ TradesAfter h e w′ = IsNew (letterOf e ≡ mark-v) w′ (recent (dateOf e) (h 
 
 -- ------------------------------------------------------------------ "Quotes and flags": each participant's bid and offer
 
--- the bid and offer of participant i after an event, of which `last` were the ones before: Q sets them, closing makes them 0
+-- the bid and offer of participant i after an event, where `last` are those before it: Q sets them, closing makes them 0
 abbrev pub quoteBy : ℕ → ℕ × ℕ → Event Message Notice → ℕ × ℕ
 quoteBy i last (message (T time price)) = last
 quoteBy i last (message (Q time participant bid offer)) = if eqb participant i then (bid, offer) else last
@@ -79,9 +79,9 @@ quoteBy i last (message (O time participant price)) = last
 quoteBy i last (message (P time participant)) = last
 quoteBy i last (message (R time participant price)) = last
 quoteBy i last (message (X time participant price)) = (0, 0)
-quoteBy i last (moment n) = if closingMark (n .moment .mark) then (0, 0) else last
+quoteBy i last (moment n) = if closingMark (n .mark) then (0, 0) else last
 
--- of sixteen, participant i has that bid and offer
+-- there are sixteen participants, and participant i has that bid and offer
 abbrev pub Quoted : ℕ → Quotes → ℕ × ℕ → Type 0
 Quoted i q last = length (q .bids) ≡ 16 and getD (q .bids) i 0 ≡ last .0 and length (q .offers) ≡ 16 and getD (q .offers) i 0 ≡ last .1
 
@@ -104,8 +104,8 @@ LeavesLimit h participant bid offer =
 abbrev pub Test : ℕ → Whole → List Trade → ℕ → Type 0
 Test hold h w mean = stateOf (h .stock) ≡ Trading and hold ≡ 0 and IsMean w mean and OnePercent mean (h .stock .reference .price)
 
--- the event starts a reference of that price: O and R their own, p and a Limit left with no trade held the old one, the others the mean
--- of the window that the event leaves
+-- the event starts a reference of that price: O and R take their own price, p and the end of a Limit with no trade held keep the old price, and
+-- the others take the mean of the window that the event leaves
 abbrev pub Starts : Whole → Event Message Notice → ℕ → Type 0
 Starts h (message (T time price)) r =
     let w = becomes machine h (message (T time price)) .window in
@@ -118,7 +118,7 @@ Starts h (message (P time participant)) r = ⊥
 Starts h (message (R time participant price)) r = r ≡ price
 Starts h (message (X time participant price)) r = ⊥
 Starts h (moment n) r =
-    let mark = n .moment .mark in
+    let mark = n .mark in
     let w = becomes machine h (moment n) .window in
     (mark ≡ mark-p and r ≡ h .stock .reference .price)
     or (mark ≡ mark-v and Test (h .stock .reference .hold) h w r)
@@ -129,7 +129,7 @@ Starts h (moment n) r =
 abbrev pub StartsOne : Whole → Event Message Notice → Type 0
 StartsOne h e = (r : ℕ) × Starts h e r
 
--- a reference that starts has its price, its date and a new hold; any other is as before, but that h ends the hold
+-- a new reference has its price, the event's date and a new hold; otherwise the reference is as before, except that h ends the hold
 abbrev pub ReferenceAfter : Whole → Event Message Notice → Stock → Type 0
 ReferenceAfter h e s′ =
     let r = h .stock .reference in
@@ -152,11 +152,11 @@ StartsPause e = IsOneOf (letterOf e) (letter-P ∷ mark-x ∷ [])
 abbrev pub Looks : Whole → Event Message Notice → Type 0
 Looks h e = StartsOne h e or (stateOf (h .stock) ≡ Trading and IsOneOf (letterOf e) (letter-Q ∷ mark-w ∷ []))
 
--- Limit is entered: they are looked at, and then a side has flag 3 and the best bid is not above the best offer
+-- Limit is entered: the quotes are looked at, a side then has flag 3, and the quotes do not cross
 abbrev pub Enters : Whole → Event Message Notice → Stock → Type 0
 Enters h e s′ = Looks h e and AtBand s′ and ¬ Crossing s′
 
--- the state after an event; a pause begun at E - 600,000 or later is a Late pause
+-- the state after an event; from E - 600,000 on a pause is a Late pause
 abbrev pub stateAfter : Whole → Event Message Notice → Stock → List Number
 stateAfter h e s′ =
     Closed for Closes e ∷

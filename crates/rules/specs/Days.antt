@@ -17,14 +17,14 @@ use Rattle.rules.specs.declared.Notice.{Notice}
 use Rattle.rules.specs.declared.Message.{Message}
 use Rattle.rules.specs.declared.Message.the-variants.{Trade as T, Quote as Q, Opening as O, Pause as P, Reopening as R, Closing as X}
 
--- time, mark or letter, number, state, reference, lower, upper, bid, flag, offer, flag
+-- a printed line without its stock: time, mark or letter, and the numbers of the answer in their order
 unfoldable pub line : ℕ → ℕ → Answer → List ℕ
 line time mark a =
-    time ∷ mark ∷ a .number ∷ a .state ∷ a .reference ∷ a .bands .lower ∷ a .bands .upper ∷
+    time ∷ mark ∷ a .number ∷ a .state ∷ a .reference ∷ a .lower ∷ a .upper ∷
     a .best .bid .price ∷ a .best .bid .flag ∷ a .best .offer .price ∷ a .best .offer .flag ∷ []
 
 abbrev pub noticed : Notice → List ℕ
-noticed n = line (n .moment .time) (n .moment .mark) (n .answer)
+noticed n = line (n .time) (n .mark) (n .answer)
 
 -- a call on the one stock of a book
 abbrev on-0 : Call Message → On (Call Message)
@@ -123,7 +123,7 @@ aLimit = record {
       [];
 }
 
--- the close decides the percent, whatever the reference; another exchange's line is 8, and the table's 9 comes after
+-- the close decides the percent, whatever the reference; a message from another exchange is answered 8, before the table's 9
 unfoldable pub byTheClose : Day
 byTheClose = record {
   end = 23_400_000;

@@ -9,42 +9,47 @@
 --   P → Q, P ↔ Q            if P then Q, P exactly if Q
 --   P × Q, P and Q          both
 --   P ⊎ Q, P or Q, ¬ P      one of them, not P
---   ⊥, Otherwise            what never holds, what always does
+--   ⊥, Otherwise            never holds, always holds
 --   a ≡ b, a - b            a equals b, the difference, which is 0 where b is the greater
 --   Some P l, IsOneOf n l   P holds of one of the list l, n is one of l
 --   a ∷ b ∷ [], as ++ bs    a list of a and b, two lists in a row
+--   Sublistᴰ as bs          as is bs, of which any may be left out; the others are in order
 --   getD l i d              the ith of l, from 0, and d where l has none
 --   s .end, k .0, k .1      a record's field `end`, and the first and the second of a pair
 --   let x = a in P          P, in which x is short for a
 --   λ x. f                  the function from x to f
 --   Gives table n           n is the number of the table's first row whose words hold, and 0 where no row's do
 --   tells m h               the number that the stock h answers the message m with
---   settles time h, reads h the same of settling to a time, and of reading
+--   settles time h, reads h the number that it answers settling to a time with, and reading
+--   nextAnswer h            what comes next: reading's number, with the earliest moment still to come by its mark and its time
 --   after m h, fire h       the stock after an accepted message, and after its earliest moment; h′ and s′ are stocks after an event
 --   becomes machine h e     the stock after an event e, which is a message or a moment
 --   afterTelling, afterSettling, tellAnswer, settleAnswer, readAnswer
 --                           the stock after such a call, accepted or refused, and its answer; the names with `book` are those of a book
 --   stock machine d b i     the ith stock of the book b; `stepIn` and `numberIn` are the book after a call on it, and the call's number
 --   story end us cs i       the story of the ith stock after a setup us and calls cs, and `now` is that stock
+--   askedOf end us cs ds i  the calls of ds on the ith stock, made after cs, accepted or refused, each with the stock that it found
+--   journalOf end us cs i   the calls of cs on the ith stock that were answered 0, each with the stock that it found
+--   called machine xs       the calls of such a list, without the stocks
 --   Allowed end u es        es is a story of a stock with setup u and session's end `end`, in a row that the rules allow
---   leaves end u es         the stock that it leaves
+--   leaves end u es         the stock that the story es leaves
 -- Assumes nothing.
 use Prim.Native.Nat.{ℕ, _+_, _≤_, _<_}
 use mathlib.Core.Bool.{true}
-use mathlib.Core.List.{List, [], _∷_, _++_}
+use mathlib.Core.List.{List, [], _∷_, _++_, Sublistᴰ}
 use mathlib.Core.Logic.{_↔_, _⊎_}
 use mathlib.Core.Path.{_≡_}
 use lib.ListN.{length, getD, replicate}
 use Rattle.forms.specs.Tables.{every}
 use Rattle.forms.specs.Words.{_or_, _and_, IsOneOf, Gives}
-use Rattle.band.specs.declared.Limits.{Limits}
+use Rattle.band.specs.declared.Bands.{Bands}
 use Rattle.rules.specs.Stock.{Trade, Whole, Waiting, Trading, Limit, Paused, Late, Closed, stateOf, clockOf, figuresOf, meanIn}
-use Rattle.rules.specs.Moments.{mark-p, mark-f, no-moment, fire}
+use Rattle.rules.specs.Moments.{mark-p, mark-f, fire}
 use Rattle.rules.specs.Messages.{after}
-use Rattle.rules.specs.Numbers.{tells, settles, reads, setsUp, afterTelling, afterSettling, notice, tellAnswer, settleAnswer, readAnswer, setupAnswer, fresh}
-use Rattle.rules.specs.Machine.{Machine, MachineLaws, Alike, Call, tell, settle, On, Event, message, moment, messages, notices, Lawful, becomes, left, Calls, stock, numberIn, stepIn}
-use Rattle.rules.specs.Book.{machine, Story, Accepted, noSetup, blank, book, now, story, Settled, bookTells, bookSettles, bookReads}
-use Rattle.rules.specs.Words.{IsShape, IsEnd, IsSetup, IsMean, Bands, AtBand, Crossing, moments, IsFirst, Rubbish, refusals, settleRefusals, readRefusals, bookRefusals, setupRefusals, ShowsNothing, Shows}
+use Rattle.rules.specs.Numbers.{tells, settles, reads, setsUp, afterTelling, afterSettling, notice, tellAnswer, settleAnswer, readAnswer, setupAnswer, fresh, nextAnswer}
+use Rattle.rules.specs.Machine.{Machine, MachineLaws, Alike, Call, tell, settle, On, of, Every, journal, IsJournal, Event, message, moment, messages, notices, Lawful, becomes, left, Asked, numberOf, called, Calls, stock, numberIn, stepIn}
+use Rattle.rules.specs.Book.{machine, Story, Accepted, noSetup, blank, book, now, story, askedOf, journalOf, Settled, bookTells, bookSettles, bookReads, bookNext}
+use Rattle.rules.specs.Words.{IsShape, IsEnd, IsSetup, IsMean, HasBands, AtBand, Crossing, moments, IsFirst, Rubbish, refusals, settleRefusals, readRefusals, bookRefusals, setupRefusals, ShowsNothing, Shows, IsTime, itsMoment, AnswerInRange, NoticeInRange, UpcomingInRange, ShowsNone, ShowsNext}
 use Rattle.rules.specs.Changes.{recent, TradesAfter, Quoted, QuotesAfter, ReferenceAfter, stateAfter, KeptAfter}
 use Rattle.rules.specs.Readings.{joined, lastQuote, NoneStarted, StartedBy, lastDate, countOf, MomentsOnly}
 use Rattle.rules.specs.Pauses.{before, PauseAt, LimitSince, PausedSince}
@@ -62,7 +67,7 @@ pub record Allowed (end : ℕ) (u : Setup) (es : Story) : Type 0 where
   pub setup-ok : IsSetup u
   pub lawful : Lawful machine (fresh end u) es
 
--- The stock that it leaves.
+-- The stock that a story leaves.
 abbrev pub leaves : ℕ → Setup → Story → Whole
 leaves end u es = left machine (fresh end u) es
 
@@ -79,8 +84,8 @@ NumbersAre = (h : Whole) (n : ℕ)
     × ((time : ℕ) → (settles time h ≡ n) ↔ Gives (settleRefusals time h) n)
     × ((reads h ≡ n) ↔ Gives (readRefusals h) n)
 
--- A call on a book is answered so too, the book's shape and the number of the stock looked at first. Of a book of the right shape
--- `numberIn`, by which calls change a book, is that number.
+-- A call on a book is answered in the same way, after checks of the book's shape and of the stock's number. For a book of the right shape this is
+-- `numberIn`, by which calls change a book.
 abbrev pub BookNumbersAre : Type 0
 BookNumbersAre = (end : ℕ) (b : List Whole) (times prices i n : ℕ)
     → let h = stock machine (blank end) b i in
@@ -105,7 +110,7 @@ numbersOf (P time participant) = 0 ∷ 1 ∷ 3 ∷ 4 ∷ 5 ∷ 6 ∷ 7 ∷ 8 ∷
 numbersOf (R time participant price) = 0 ∷ 1 ∷ 3 ∷ 4 ∷ 5 ∷ 6 ∷ 7 ∷ 8 ∷ 9 ∷ 10 ∷ []
 numbersOf (X time participant price) = 0 ∷ 1 ∷ 3 ∷ 4 ∷ 5 ∷ 6 ∷ 7 ∷ 8 ∷ 9 ∷ 10 ∷ []
 
--- Every number that is given is one of the call's list.
+-- Every number that a call gives is one of the call's list.
 abbrev pub NumbersListed : Type 0
 NumbersListed =
     ((end : ℕ) (b : List Whole) (times prices i : ℕ)
@@ -116,34 +121,68 @@ NumbersListed =
 
 -- ---------------------------------------------------------------- answers
 
--- An accepted message leaves the stock after it, a settling that does a moment the stock after that moment, with its notice, whatever
--- time the call named; a refused one leaves the stock as it stood.
+-- An accepted message leaves the stock after the message. A settling that does a moment leaves the stock after that moment and gives its notice,
+-- whatever time the call named. A refused call leaves the stock as it was.
 abbrev pub CallsLeave : Type 0
 CallsLeave = (h : Whole)
     → ((m : Message) → (tells m h ≡ 0 → afterTelling m h ≡ after m h) × (¬ (tells m h ≡ 0) → afterTelling m h ≡ h))
     × ((time : ℕ) → (settles time h ≡ 0 → (afterSettling time h ≡ fire h) × (settleAnswer time h ≡ notice h))
     × (¬ (settles time h ≡ 0) → afterSettling time h ≡ h))
 
--- An answer shows the stock as it then is, zeros with 1, 2 and 3. Settling's answer has zeros for the moment where none was done.
+-- An answer shows the stock after the call, or zeros with 1, 2 and 3. Settling's answer has zeros for the moment where none was done.
 abbrev pub AnswersShow : Type 0
 AnswersShow = (h : Whole)
     → ((m : Message) → Shows (tells m h) (afterTelling m h .stock) (tellAnswer m h))
     × ((time : ℕ) → let a = settleAnswer time h in
     Shows (settles time h) (afterSettling time h .stock) (a .answer)
-    × (¬ (settles time h ≡ 0) → a .moment .mark ≡ 0 and a .moment .time ≡ 0))
+    × (¬ (settles time h ≡ 0) → a .mark ≡ 0 and a .time ≡ 0))
     × Shows (reads h) (h .stock) (readAnswer h)
     × ((stocks times prices end : ℕ) (us : List Setup) → let a = setupAnswer stocks times prices end us in
     (a .number ≡ setsUp stocks times prices end us) × ShowsNothing a)
 
--- A book of the right shape answers a call on a stock that there is as the stock answers it; it answers any other with zeros.
+-- Every number of an answer, of a notice and of what comes next is in its range, whatever the stock: each fits 32 bits. A record has sixteen
+-- quotes.
+abbrev pub AnswersFit : Type 0
+AnswersFit = (h : Whole) → length (h .stock .quotes .bids) ≡ 16 → length (h .stock .quotes .offers) ≡ 16
+    → ((m : Message) → AnswerInRange (tellAnswer m h))
+    × ((time : ℕ) → NoticeInRange (settleAnswer time h))
+    × AnswerInRange (readAnswer h)
+    × UpcomingInRange (nextAnswer h)
+
+-- A book of the right shape answers a call on one of its stocks as that stock answers it; it answers any other call with zeros.
 abbrev pub BookAnswers : Type 0
 BookAnswers = (end : ℕ) (b : List Whole) (times prices i : ℕ)
     → let h = stock machine (blank end) b i in
     let there = IsShape (length b) times prices and i < length b in
     ((m : Message) → (there → bookTells end b times prices i m ≡ tellAnswer m h) × (¬ there → ShowsNothing (bookTells end b times prices i m)))
     × ((time : ℕ) → (there → bookSettles end b times prices i time ≡ settleAnswer time h)
-    × (¬ there → ShowsNothing (bookSettles end b times prices i time .answer) × (bookSettles end b times prices i time .moment ≡ no-moment)))
+    × (¬ there → ShowsNothing (bookSettles end b times prices i time .answer) × (bookSettles end b times prices i time .mark ≡ 0) × (bookSettles end b times prices i time .time ≡ 0)))
     × (there → bookReads end b times prices i ≡ readAnswer h) × (¬ there → ShowsNothing (bookReads end b times prices i))
+
+-- ---------------------------------------------------------------- what comes next
+
+-- Asking what comes next is answered with the number of reading. With 0 the answer has the earliest moment still to come, or none where there is
+-- none; with any other number it has none.
+abbrev pub NextIs : Type 0
+NextIs = (h : Whole) → let u = nextAnswer h in
+    (u .number ≡ reads h) × (reads h ≡ 0 → ShowsNext h u) × (¬ (reads h ≡ 0) → ShowsNone u)
+
+-- A book of the right shape gives this answer for a stock that it has; any other call gets the number of reading, and no moment.
+abbrev pub BookNextIs : Type 0
+BookNextIs = (end : ℕ) (b : List Whole) (times prices i : ℕ) → let u = bookNext end b times prices i in
+    let there = IsShape (length b) times prices and i < length b in
+    (u .number ≡ bookReads end b times prices i .number)
+    × (there → u ≡ nextAnswer (stock machine (blank end) b i)) × (¬ there → ShowsNone u)
+
+-- A timer can be set by what comes next. Its time is not before the clock, and it is in range. Settling to any time in range is answered 14
+-- exactly where no moment is to come or the time is before it; otherwise it does this moment and no other, whatever time the call names.
+abbrev pub NextSettles : Type 0
+NextSettles = (h : Whole) → let u = nextAnswer h in u .number ≡ 0
+    → (¬ (u .mark ≡ 0) → clockOf (h .stock) ≤ u .time and IsTime (h .stock .end) (u .time))
+    × ((time : ℕ) → IsTime (h .stock .end) time
+    → ((settles time h ≡ 14) ↔ (u .mark ≡ 0 or time < u .time))
+    × (¬ (u .mark ≡ 0 or time < u .time)
+    → settles time h ≡ 0 and settleAnswer time h .mark ≡ u .mark and settleAnswer time h .time ≡ u .time))
 
 -- ---------------------------------------------------------------- a book and its stocks
 
@@ -171,8 +210,8 @@ CallsStep = (end : ℕ) (b : List Whole) (i : ℕ)
     × ((time : ℕ) → let b′ = stepIn machine (blank end) b (record { at = i; it = settle time }) in
     (length b′ ≡ length b) × (i < length b → stock machine (blank end) b′ i ≡ afterSettling time h))
 
--- A setup starts a stock for each of its own, whose story is empty. An accepted message is the next event of the story of the stock that it
--- names, and so is a settled moment; no other call on a stock of the book is in a story.
+-- A setup starts one stock for each of its setups, with an empty story. An accepted message is the next event of the story of the stock that it
+-- names, and so is a settled moment; no other call on a stock of the book changes a story.
 abbrev pub StoriesGrow : Type 0
 StoriesGrow = (end : ℕ) (us : List Setup) → (length (book end us) ≡ length us)
     × ((i : ℕ) → (story end us [] i ≡ []) × ((cs : Calls machine) (j : ℕ) → j < length us
@@ -183,7 +222,7 @@ StoriesGrow = (end : ℕ) (us : List Setup) → (length (book end us) ≡ length
     × ((time : ℕ) → (i ≡ j and settles time h ≡ 0 → after-call (settle time) ≡ story end us cs i ++ (moment (notice h) ∷ []))
     × (¬ (i ≡ j and settles time h ≡ 0) → after-call (settle time) ≡ story end us cs i))))
 
--- A call that a stock refuses changes nothing. One on a book of a wrong shape is given 1 (`book-numbers`); the crate book keeps its bytes.
+-- A call that a stock refuses changes nothing. A book of a wrong shape answers 1 (`book-numbers`), and the crate book leaves its bytes.
 abbrev pub Refused : Type 0
 Refused = (end : ℕ) (b : List Whole) (c : On (Call Message)) → ¬ (numberIn machine (blank end) b c ≡ 0)
     → stepIn machine (blank end) b c ≡ b
@@ -197,16 +236,84 @@ OthersStay = (end : ℕ) (b : List Whole) (c : On (Call Message)) (i : ℕ) → 
 abbrev pub NeverRubbish : Type 0
 NeverRubbish = (end : ℕ) (u : Setup) (es : Story) → Allowed end u es → ¬ Rubbish (leaves end u es)
 
--- What the next statement says holds of any machine with seven laws; the stock of the rules has them.
+-- The next statement holds for any machine with seven laws; the stock of the rules has them.
 abbrev pub OfAnyMachine : Type 1
 OfAnyMachine = (𝓜 : Machine) → MachineLaws 𝓜 → (blank : 𝓜 .Stock) → Alike 𝓜 blank
 
--- The same messages to each stock, both books settled to one time and not beyond: equal stocks and equal dated notices.
+-- Where the stocks of two books get the same messages, and both books are settled to one time and not beyond, the stocks and the dated notices
+-- are equal.
 abbrev pub SettledAlike : Type 0
 SettledAlike = (end : ℕ) (us : List Setup) (cs ds : Calls machine) (time : ℕ) → Settled end time us cs → Settled end time us ds
     → ((i : ℕ) → messages (story end us cs i) ≡ messages (story end us ds i))
     → (i : ℕ) → i < length us
     → (now end us cs i ≡ now end us ds i) × (notices (story end us cs i) ≡ notices (story end us ds i))
+
+-- The journal of a list of calls has each call that was answered 0, in order, and no other.
+abbrev pub JournalIs : Type 1
+JournalIs = (A : Type 0) (number : A → ℕ) (xs : List A)
+    → IsJournal number xs (journal number xs) × Every (λ x. number x ≡ 0) (journal number xs)
+
+-- A journal that may have refused calls too: any list of the calls, in order, that has every call that was answered 0. So the list of all calls is
+-- one.
+abbrev pub JournalsAre : Type 1
+JournalsAre = (A : Type 0) (number : A → ℕ) (xs es : List A)
+    → IsJournal number xs es ↔ (Sublistᴰ es xs × (journal number es ≡ journal number xs))
+
+-- The calls that were made on stock i are none at first. Each call on it is the next of them, with the stock that it found, accepted or refused.
+-- A call on another stock, or on none, is not among them.
+abbrev pub AskedGrow : Type 0
+AskedGrow = (end : ℕ) (us : List Setup) (cs : Calls machine) (i : ℕ) → i < length us
+    → (askedOf end us cs [] i ≡ []) × ((ds : Calls machine) (j : ℕ) (it : Call Message)
+    → let after-call = askedOf end us cs (ds ++ (record { at = j; it = it } ∷ [])) i in
+    (i ≡ j → after-call ≡ askedOf end us cs ds i ++ (record { call = it; found = now end us (cs ++ ds) i } ∷ []))
+    × (¬ (i ≡ j) → after-call ≡ askedOf end us cs ds i))
+
+-- The journal of stock i is empty at first. Each call on it that is answered 0 is the next entry, with the stock that it found. A refused call and
+-- a call on another stock, or on none, are not entered.
+abbrev pub JournalsGrow : Type 0
+JournalsGrow = (end : ℕ) (us : List Setup) (i : ℕ) → i < length us
+    → (journalOf end us [] i ≡ []) × ((cs : Calls machine) (j : ℕ)
+    → let h = now end us cs i in
+    let after-call : Call Message → List (Asked machine) = λ it. journalOf end us (cs ++ (record { at = j; it = it } ∷ [])) i in
+    ((m : Message) → (i ≡ j and tells m h ≡ 0 → after-call (tell m) ≡ journalOf end us cs i ++ (record { call = tell m; found = h } ∷ []))
+    × (¬ (i ≡ j and tells m h ≡ 0) → after-call (tell m) ≡ journalOf end us cs i))
+    × ((time : ℕ) → (i ≡ j and settles time h ≡ 0 → after-call (settle time) ≡ journalOf end us cs i ++ (record { call = settle time; found = h } ∷ []))
+    × (¬ (i ≡ j and settles time h ≡ 0) → after-call (settle time) ≡ journalOf end us cs i)))
+
+-- Stock i of one book and stock j of another have the same setup. The sizes of the books and their other stocks may differ.
+pub record SetUpAlike (us vs : List Setup) (i j : ℕ) : Type 0 where
+  pub first : i < length us
+  pub second : j < length vs
+  pub alike : getD us i noSetup ≡ getD vs j noSetup
+
+-- Both stocks accepted the same calls, and each of these found the same stock. The stocks are equal, and so are their stories with all notices.
+pub record SameStock (end : ℕ) (us vs : List Setup) (cs ds : Calls machine) (i j : ℕ) : Type 0 where
+  pub journals : journalOf end us cs i ≡ journalOf end vs ds j
+  pub stocks : now end us cs i ≡ now end vs ds j
+  pub stories : story end us cs i ≡ story end vs ds j
+
+-- The accepted calls decide a stock and its story. Refused calls and calls on other stocks change nothing.
+abbrev pub SameJournal : Type 0
+SameJournal = (end : ℕ) (us vs : List Setup) (cs ds : Calls machine) (i j : ℕ) → SetUpAlike us vs i j
+    → called machine (journalOf end us cs i) ≡ called machine (journalOf end vs ds j)
+    → SameStock end us vs cs ds i j
+
+-- Both stocks have accepted the same calls so far: none, at the beginning. Then stock i gets more calls, and a journal of these is replayed on
+-- stock j. The journal has every accepted call and may have refused ones. Each entry finds the stock that its call found, so the answer is the same.
+abbrev pub Replayed : Type 0
+Replayed = (end : ℕ) (us vs : List Setup) (cs ds es fs : Calls machine) (i j : ℕ) → SetUpAlike us vs i j
+    → called machine (journalOf end us cs i) ≡ called machine (journalOf end vs ds j)
+    → (entries : List (Asked machine)) → IsJournal (numberOf machine) (askedOf end us cs es i) entries → of j fs ≡ called machine entries
+    → (askedOf end vs ds fs j ≡ entries) × SameStock end us vs (cs ++ es) (ds ++ fs) i j
+
+-- Both stocks have accepted the same calls so far. Then both are settled to one time until that is refused. It does not matter how many calls
+-- are made, nor how many of them were made before a crash.
+abbrev pub SettledOn : Type 0
+SettledOn = (end time : ℕ) (us vs : List Setup) (cs ds es fs : Calls machine) (i j : ℕ) → SetUpAlike us vs i j
+    → called machine (journalOf end us cs i) ≡ called machine (journalOf end vs ds j)
+    → Every (λ c. c ≡ settle time) (of i es) → ¬ (settles time (now end us (cs ++ es) i) ≡ 0)
+    → Every (λ c. c ≡ settle time) (of j fs) → ¬ (settles time (now end vs (ds ++ fs) j) ≡ 0)
+    → SameStock end us vs (cs ++ es) (ds ++ fs) i j
 
 -- Fewer than 2,000 moments happen in a row, so settling ends.
 abbrev pub FewMoments : Type 0
@@ -216,7 +323,7 @@ FewMoments = (end : ℕ) (u : Setup) (es ns : Story) → Allowed end u (es ++ ns
 
 -- The moment that happens is the earliest still to come, and of two at one time the one that stands first in z w x p c v f h.
 abbrev pub MomentsAre : Type 0
-MomentsAre = (h : Whole) (n : Notice) → CanHappen h (moment n) → IsFirst (n .moment) (moments h)
+MomentsAre = (h : Whole) (n : Notice) → CanHappen h (moment n) → IsFirst (itsMoment n) (moments h)
 
 -- The window after each event.
 abbrev pub TradesAre : Type 0
@@ -238,14 +345,14 @@ ReferenceIs = (h : Whole) (e : Event Message Notice) → CanHappen h e → Refer
 abbrev pub KeptIs : Type 0
 KeptIs = (h : Whole) (e : Event Message Notice) → CanHappen h e → KeptAfter h e (becomes machine h e .stock)
 
--- The words leave nothing open: a stock of which they hold is the one that the rules leave. A record has sixteen quotes.
+-- The words determine the stock: a stock for which they hold is the one that the rules leave. A record has sixteen quotes.
 abbrev pub ChangesOnly : Type 0
 ChangesOnly = (h : Whole) (e : Event Message Notice) → CanHappen h e → length (h .stock .quotes .bids) ≡ 16 → length (h .stock .quotes .offers) ≡ 16
     → (h′ : Whole) → TradesAfter h e (h′ .window) → QuotesAfter h e (h′ .stock) → ReferenceAfter h e (h′ .stock)
     → Gives (stateAfter h e (h′ .stock)) (stateOf (h′ .stock)) → KeptAfter h e (h′ .stock)
     → h′ ≡ becomes machine h e
 
--- The mean that the rules take of a window is that of "Band arithmetic".
+-- The mean of a window in the rules is that of "Band arithmetic".
 abbrev pub MeanIs : Type 0
 MeanIs = (w : List Trade) → 1 ≤ length w → IsMean w (meanIn (figuresOf w))
 
@@ -256,8 +363,8 @@ abbrev pub ClockIs : Type 0
 ClockIs = (end : ℕ) (u : Setup) (es : Story) → Allowed end u es
     → (clockOf (leaves end u es .stock) ≡ lastDate 0 es) × (leaves end u es .stock .setup ≡ u) × (leaves end u es .stock .end ≡ end)
 
--- The held trades are those since the last opening of the last 300,000. At the clock those that leave at its very millisecond may be there
--- still; at each time to which the stock is settled they are gone.
+-- The held trades are those of the last 300,000 since the last opening. Trades that leave in the very millisecond of the clock may still be held;
+-- at each time to which the stock is settled they are gone.
 abbrev pub HeldTrades : Type 0
 HeldTrades = (end : ℕ) (u : Setup) (es : Story) → Allowed end u es
     → let h = leaves end u es in
@@ -278,14 +385,14 @@ ReferenceSince = (end : ℕ) (u : Setup) (es : Story) → Allowed end u es
     (NoneStarted (fresh end u) es × (r ≡ record { price = 0; start = 0; hold = 0 }) × (stateOf s ≡ Waiting or stateOf s ≡ Closed))
     ⊎ (StartedBy (r .price) (r .start) (fresh end u) es × (1 ≤ r .price) × ¬ (stateOf s ≡ Waiting))
 
--- In Limit, and in a pause, the kept date is that of the event since which the stock is there.
+-- In Limit and in a pause, the kept date is that of the event that began it.
 abbrev pub DatesAre : Type 0
 DatesAre = (end : ℕ) (u : Setup) (es : Story) → Allowed end u es
     → let s = leaves end u es .stock in
     (stateOf s ≡ Limit → LimitSince (s .course .entry) (fresh end u) es)
     × (stateOf s ≡ Paused or stateOf s ≡ Late → PausedSince (s .course .pause) (fresh end u) es)
 
--- A Trading stock does not stand at a band with a market that is not crossed.
+-- In Trading, no best quote is at its limit band unless the quotes cross.
 abbrev pub QuotesLookedAt : Type 0
 QuotesLookedAt = (end : ℕ) (u : Setup) (es : Story) → Allowed end u es
     → let s = leaves end u es .stock in
@@ -296,7 +403,7 @@ QuotesLookedAt = (end : ℕ) (u : Setup) (es : Story) → Allowed end u es
 -- No trade is accepted outside bands in force, nor in a pause.
 abbrev pub TradesInBands : Type 0
 TradesInBands = (h : Whole) (time price : ℕ) → tells (T time price) h ≡ 0
-    → ((l : Limits) → Bands (h .stock) l → l .lower ≤ price and price ≤ l .upper)
+    → ((l : Bands) → HasBands (h .stock) l → l .lower ≤ price and price ≤ l .upper)
     × ¬ (stateOf (h .stock) ≡ Paused or stateOf (h .stock) ≡ Late)
 
 -- In a story settled to t or later a moment begins a pause at t exactly when the limit state entered 15,000 before has lasted until t, and
@@ -315,7 +422,7 @@ PausesEnd = (end : ℕ) (u : Setup) (es : Story) → Allowed end u es
     × ((e : Event Message Notice) → CanHappen h e
     → (stateOf (becomes machine h e .stock) ≡ Paused)
     ⊎ ((time price : ℕ) × (e ≡ message (R time (u .primary) price)) × (begun + 300_000 ≤ time))
-    ⊎ ((n : Notice) × (e ≡ moment n) × (n .moment .mark ≡ mark-p) × (n .moment .time ≡ begun + 600_000)))
+    ⊎ ((n : Notice) × (e ≡ moment n) × (n .mark ≡ mark-p) × (n .time ≡ begun + 600_000)))
 
 -- A Late pause never trades again.
 abbrev pub NeverAgain : Type 0
@@ -350,7 +457,11 @@ pub record Demands : Type 1 where
   pub listed : NumbersListed
   pub calls-leave : CallsLeave
   pub shows : AnswersShow
+  pub fit : AnswersFit
   pub answers : BookAnswers
+  pub next-is : NextIs
+  pub book-next : BookNextIs
+  pub next-settles : NextSettles
   pub fresh-is : FreshIs
   pub by-story : ByStory
   pub calls-step : CallsStep
@@ -361,6 +472,13 @@ pub record Demands : Type 1 where
   pub of-any-machine : OfAnyMachine
   pub machine-laws : MachineLaws machine
   pub settled-alike : SettledAlike
+  pub journal-is : JournalIs
+  pub journals-are : JournalsAre
+  pub asked-grow : AskedGrow
+  pub journals-grow : JournalsGrow
+  pub same-journal : SameJournal
+  pub replayed : Replayed
+  pub settled-on : SettledOn
   pub few-moments : FewMoments
   pub moments-are : MomentsAre
   pub trades : TradesAre

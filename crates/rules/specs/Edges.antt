@@ -1,5 +1,5 @@
--- Records and calls at the edges of what the rules allow (document 01, "Units and ranges", "Moments", "Numbers given back"), and what they
--- are answered.
+-- Records and calls at the edges of what the rules allow, with the expected answers (document 01, "Units and ranges", "Moments",
+-- "Numbers given back").
 -- Assumes nothing.
 use Prim.Native.Nat.{ℕ}
 use mathlib.Core.Bool.{Bool, not}
@@ -11,12 +11,13 @@ use Rattle.rules.specs.Stock.{Waiting, Paused, Late, stateOf, Trade, Who
 use Rattle.rules.specs.States.{noQuotes}
 use Rattle.rules.specs.Moments.{mark-z, mark-p, mark-c, mark-h, mark-w, mark-x, mark-v, mark-f}
 use Rattle.rules.specs.Messages.{taken, letter-T, letter-Q, letter-O, letter-P, letter-R, letter-X}
-use Rattle.rules.specs.Numbers.{rubbish, tells, settles, fresh, callChecks, setsUp, answer, setupAnswer, afterTelling, afterSettling, tellAnswer, settleAnswer}
-use Rattle.rules.specs.Book.{bookTells, bookSettles}
+use Rattle.rules.specs.Numbers.{rubbish, tells, settles, fresh, callChecks, setsUp, answer, setupAnswer, afterTelling, afterSettling, tellAnswer, settleAnswer, nextAnswer}
+use Rattle.rules.specs.Book.{bookTells, bookSettles, bookNext}
 use Rattle.rules.specs.Days.{line, noticed, sameNumbers, listed}
 use Rattle.rules.specs.declared.Setup.{Setup}
 use Rattle.rules.specs.declared.Reference.{Reference}
 use Rattle.rules.specs.declared.Quotes.{Quotes}
+use Rattle.rules.specs.declared.Upcoming.{Upcoming}
 use Rattle.rules.specs.declared.Message.{Message}
 use Rattle.rules.specs.declared.Message.the-variants.{Trade as T, Quote as Q, Opening as O, Pause as P, Reopening as R, Closing as X}
 
@@ -51,7 +52,7 @@ plain = trading-with (referring 100_000 990_000 1) []
 abbrev late-at-end : Whole
 late-at-end = sound 4 3_600_000 0 0 3_000_000 (referring 1 0 0) noQuotes []
 
--- as setup leaves it
+-- a stock as setup leaves it
 abbrev new-stock : Whole
 new-stock = fresh 3_600_000 (listed 2)
 
@@ -74,6 +75,10 @@ numbersOf h =
     let r = h .stock .reference in
     let q = h .stock .quotes in
     c .state ∷ c .clock ∷ c .early ∷ c .entry ∷ c .pause ∷ r .price ∷ r .start ∷ r .hold ∷ length (q .bids) ∷ length (q .offers) ∷ length (h .window) ∷ []
+
+-- number, mark and time of what comes next
+abbrev upcoming : Upcoming → List ℕ
+upcoming u = u .number ∷ u .mark ∷ u .time ∷ []
 
 pub data Edge : Type 0 where
   -- a record that is rubbish, and one that is not
@@ -234,11 +239,11 @@ edges =
     settles-to (sound 4 1_000_000 0 0 0 (referring 1 970_000 1) noQuotes []) 1_000_000 0 ∷
     settles-to (sound 5 0 1 0 0 (referring 1 0 1) noQuotes (trade 0 1 ∷ [])) 3_900_000 14 ∷
     -- in one millisecond z before h; and, though no story brings them together, p before h and v, c before v
-    shown (settleAnswer 3_600_000 (sound 1 3_590_000 0 0 0 (referring 1 3_570_000 1) noQuotes []) .moment .mark ∷ []) (mark-z ∷ []) ∷
-    shown (settleAnswer 1_000_000 (sound 3 990_000 0 0 400_000 (referring 1 970_000 1) noQuotes []) .moment .mark ∷ []) (mark-p ∷ []) ∷
-    shown (settleAnswer 1_000_000 (sound 3 990_000 0 0 400_000 (referring 1 0 0) noQuotes (trade 700_000 1 ∷ [])) .moment .mark ∷ []) (mark-p ∷ []) ∷
-    shown (settleAnswer 3_900_000 (sound 4 3_700_000 0 0 0 (referring 1 0 0) noQuotes (trade 3_600_000 1 ∷ [])) .moment .mark ∷ []) (mark-c ∷ []) ∷
-    -- a pause begun at E - 600,000 is a Late pause, one begun a millisecond before is not; closing empties the window
+    shown (settleAnswer 3_600_000 (sound 1 3_590_000 0 0 0 (referring 1 3_570_000 1) noQuotes []) .mark ∷ []) (mark-z ∷ []) ∷
+    shown (settleAnswer 1_000_000 (sound 3 990_000 0 0 400_000 (referring 1 970_000 1) noQuotes []) .mark ∷ []) (mark-p ∷ []) ∷
+    shown (settleAnswer 1_000_000 (sound 3 990_000 0 0 400_000 (referring 1 0 0) noQuotes (trade 700_000 1 ∷ [])) .mark ∷ []) (mark-p ∷ []) ∷
+    shown (settleAnswer 3_900_000 (sound 4 3_700_000 0 0 0 (referring 1 0 0) noQuotes (trade 3_600_000 1 ∷ [])) .mark ∷ []) (mark-c ∷ []) ∷
+    -- a pause that starts at E - 600,000 is a Late pause, one that starts a millisecond earlier is not; closing empties the window
     shown (stateOf (afterSettling 3_000_000 (sound 2 2_985_000 0 2_985_000 0 (referring 1 0 0) noQuotes []) .stock) ∷ []) (Late ∷ []) ∷
     shown (stateOf (afterSettling 2_999_999 (sound 2 2_984_999 0 2_984_999 0 (referring 1 0 0) noQuotes []) .stock) ∷ []) (Paused ∷ []) ∷
     shown (length (afterSettling 3_600_000 (sound 1 3_500_000 0 0 0 (referring 1 0 0) noQuotes (trade 3_400_000 1 ∷ [])) .window) ∷ []) (0 ∷ []) ∷
@@ -276,11 +281,11 @@ edges =
     -- an opening and a closing in a state that does not take them
     told plain (O 1_000_000 2 1) 9 ∷
     told plain (X 1_000_000 2 1) 9 ∷
-    -- there is no state over 5
+    -- a state over 5 refuses as Closed does
     shown (taken 0 6 ∷ []) (7 ∷ []) ∷
     -- a stock as setup starts it
     shown (numbersOf new-stock) (0 ∷ 0 ∷ 1 ∷ 0 ∷ 0 ∷ 0 ∷ 0 ∷ 0 ∷ 16 ∷ 16 ∷ 0 ∷ []) ∷
-    -- and after its opening: a start, a new hold, the price alone in the window
+    -- the stock after its opening: a start, a new hold, the price alone in the window
     shown (numbersOf (afterTelling (O 1_000 2 100_000) new-stock)) (1 ∷ 1_000 ∷ 1 ∷ 0 ∷ 0 ∷ 100_000 ∷ 1_000 ∷ 1 ∷ 16 ∷ 16 ∷ 1 ∷ []) ∷
     -- zeros after 1, 2 and 3, and beside a setup that is done; no mark and no time where settling did nothing
     shown (line 0 0 (tellAnswer (T 1_000_000 1) (trading-with (referring 0 990_000 1) []))) (0 ∷ 0 ∷ 1 ∷ 0 ∷ 0 ∷ 0 ∷ 0 ∷ 0 ∷ 0 ∷ 0 ∷ 0 ∷ []) ∷
@@ -304,4 +309,14 @@ edges =
     (0 ∷ 0 ∷ 14 ∷ 1 ∷ 100_000 ∷ 90_000 ∷ 110_000 ∷ 0 ∷ 0 ∷ 0 ∷ 0 ∷ []) ∷
     shown (noticed (settleAnswer 1_000_000 (trading-with (referring 100_000 970_000 1) [])))
     (1_000_000 ∷ mark-h ∷ 0 ∷ 1 ∷ 100_000 ∷ 90_000 ∷ 110_000 ∷ 0 ∷ 0 ∷ 0 ∷ 0 ∷ []) ∷
+    -- what comes next: f for a new stock, w where f has happened, p for a pause, none in Closed; zeros for rubbish, a wrong shape and an unknown
+    -- stock
+    shown (upcoming (nextAnswer new-stock)) (0 ∷ mark-f ∷ 300_000 ∷ []) ∷
+    shown (upcoming (nextAnswer (sound 0 300_000 0 0 0 (referring 0 0 0) noQuotes []))) (0 ∷ mark-w ∷ 900_000 ∷ []) ∷
+    shown (upcoming (nextAnswer (sound 3 1_000_000 0 0 990_000 (referring 1 0 0) noQuotes []))) (0 ∷ mark-p ∷ 1_590_000 ∷ []) ∷
+    shown (upcoming (nextAnswer (sound 5 0 1 0 0 (referring 1 0 1) noQuotes (trade 0 1 ∷ [])))) (0 ∷ 0 ∷ 0 ∷ []) ∷
+    shown (upcoming (nextAnswer (trading-with (referring 0 990_000 1) []))) (1 ∷ 0 ∷ 0 ∷ []) ∷
+    shown (upcoming (bookNext 3_600_000 (new-stock ∷ []) 512 512 0)) (0 ∷ mark-f ∷ 300_000 ∷ []) ∷
+    shown (upcoming (bookNext 3_600_000 (new-stock ∷ []) 511 512 1)) (1 ∷ 0 ∷ 0 ∷ []) ∷
+    shown (upcoming (bookNext 3_600_000 (new-stock ∷ []) 512 512 1)) (3 ∷ 0 ∷ 0 ∷ []) ∷
     []

@@ -1,4 +1,4 @@
--- What was worked out by hand (document 01, "Checked by hand"): the table B1 to B12.
+-- Examples worked out by hand (document 01, "Checked by hand"): the table B1 to B12.
 -- Assumes nothing.
 use Prim.Native.Nat.{ℕ}
 use mathlib.Core.Bool.{Bool}

@@ -1,8 +1,8 @@
--- One stock as a machine, a book of such machines, and what demands 2 and 3 say of it (the mission's demands; document 01, "What the
--- book holds"). Of the rules it has two numbers: 3 for a stock that there is not, and 14 where no moment is due.
+-- One stock as a machine, a book of such machines, and what demands 2 and 3 say of it (the mission's demands; document 01,
+-- "What the book holds"). It uses two numbers of the rules: 3 for an unknown stock, and 14 where no moment is due.
 -- Assumes nothing.
 use Prim.Native.Nat.{ℕ, _≤_, _<_}
-use mathlib.Core.List.{List, [], _∷_, _++_}
+use mathlib.Core.List.{List, [], _∷_, _++_, map}
 use mathlib.Core.Logic.{_⊎_}
 use mathlib.Core.Path.{_≡_}
 use lib.Dec.{ltb, eqb}
@@ -21,7 +21,7 @@ pub record Machine : Type 1 where
   pub clock : Stock → ℕ
   -- a moment is still to come, and the earliest is at that time
   pub Due : Stock → ℕ → Type 0
-  -- the number that a message, and settling to a time, is answered with: 0 is done
+  -- the numbers that answer a message and settling to a time; 0 means done
   pub tells : Message → Stock → ℕ
   pub settles : ℕ → Stock → ℕ
   -- the stock after an accepted message, and after its earliest moment; that moment's notice
@@ -71,22 +71,33 @@ pub record On (A : Type 0) : Type 0 where
   pub at : ℕ
   pub it : A
 
--- what is about the stock i
+-- those about the stock i
 unfoldable pub of : {A : Type 0} → ℕ → List (On A) → List A
 of i [] = []
 of i (x ∷ xs) = (if eqb i (x .at) then x .it ∷ [] else []) ++ of i xs
 
--- so of each of a list
+-- the proposition holds for each of a list
 abbrev pub Every : {A : Type 0} → (A → Type 0) → List A → Type 0
 Every P [] = Unit {0}
 Every P (x ∷ xs) = P x × Every P xs
+
+-- the journal of calls, where a function gives each call's number: those that were answered 0, in order
+abbrev pub journal : {A : Type 0} → (A → ℕ) → List A → List A
+journal number [] = []
+journal number (x ∷ xs) = if eqb (number x) 0 then x ∷ journal number xs else journal number xs
+
+-- a journal that may have refused calls too: all calls that were answered 0 and any of the others, in order
+abbrev pub IsJournal : {A : Type 0} → (A → ℕ) → List A → List A → Type 0
+IsJournal number [] es = es ≡ []
+IsJournal {A = A} number (x ∷ xs) es =
+    ((rest : List A) × (es ≡ x ∷ rest) × IsJournal number xs rest) ⊎ (¬ (number x ≡ 0) × IsJournal number xs es)
 
 module _ (𝓜 : Machine) where
   open Machine 𝓜 using (Stock, Message, Notice, time, date, clock, tells, settles, after, fire, notice)
 
   -- ---------------------------------------------------------------- one stock
 
-  -- what happened to one stock, the first first
+  -- what happened to one stock, the earliest first
   abbrev pub History : Type 0
   History = List (Event Message Notice)
 
@@ -101,17 +112,17 @@ module _ (𝓜 : Machine) where
   Lawful s (message m ∷ es) = (tells m s ≡ 0) × Lawful (after m s) es
   Lawful s (moment n ∷ es) = ((t : ℕ) × (settles t s ≡ 0)) × (n ≡ notice s) × Lawful (fire s) es
 
-  -- what an event makes of a stock
+  -- the stock after an event
   abbrev pub becomes : Stock → Event Message Notice → Stock
   becomes s (message m) = after m s
   becomes s (moment n) = fire s
 
-  -- what a history leaves
+  -- the stock after a history
   abbrev pub left : Stock → History → Stock
   left s [] = s
   left s (e ∷ es) = left (becomes s e) es
 
-  -- so of the stock, and after each event of a history
+  -- the proposition holds for the stock, and after each event of a history
   abbrev pub Throughout : (Stock → Type 0) → Stock → History → Type 0
   Throughout P s [] = P s
   Throughout P s (e ∷ es) = P s × Throughout P (becomes s e) es
@@ -123,28 +134,40 @@ module _ (𝓜 : Machine) where
 
   -- ---------------------------------------------------------------- a call on one stock
 
-  -- the number that it is answered with
+  -- the number that answers a call
   abbrev pub number : Call Message → Stock → ℕ
   number (tell m) s = tells m s
   number (settle t) s = settles t s
 
-  -- the stock after it, once it is accepted
+  -- the stock after an accepted call
   abbrev pub done : Call Message → Stock → Stock
   done (tell m) s = after m s
   done (settle t) s = fire s
 
-  -- what has then happened
+  -- the event that an accepted call makes happen
   abbrev pub event : Call Message → Stock → Event Message Notice
   event (tell m) s = message m
   event (settle t) s = moment (notice s)
 
+  -- a call on one stock, and the stock that it found
+  pub record Asked : Type 0 where
+    pub call : Call Message
+    pub found : Stock
+
+  -- the call's number; and the calls of a list, without the stocks
+  abbrev pub numberOf : Asked → ℕ
+  numberOf x = number (x .call) (x .found)
+
+  abbrev pub called : List Asked → List (Call Message)
+  called xs = map (λ x. x .call) xs
+
   -- ---------------------------------------------------------------- a book, and calls that name a stock
 
-  -- its stocks, by their numbers
+  -- the stocks of a book, by their numbers
   abbrev pub Book : Type 0
   Book = List Stock
 
-  -- calls on its stocks
+  -- calls on the stocks of a book
   abbrev pub Calls : Type 0
   Calls = List (On (Call Message))
 
@@ -154,11 +177,11 @@ module _ (𝓜 : Machine) where
     abbrev pub stock : Book → ℕ → Stock
     stock b i = getD b i blank
 
-    -- 3: the stock number is too large
+    -- the number that answers a call: 3 where there is no such stock
     unfoldable pub numberIn : Book → On (Call Message) → ℕ
     numberIn b c = if ltb (c .at) (length b) then number (c .it) (stock b (c .at)) else 3
 
-    -- a call that is not answered 0 leaves all as it stood; the others leave every other stock so
+    -- the book after a call: a refused call changes nothing, an accepted one changes only its stock
     unfoldable pub stepIn : Book → On (Call Message) → Book
     stepIn b c = if eqb (numberIn b c) 0 then set b (c .at) (done (c .it) (stock b (c .at))) else b
 
@@ -176,6 +199,11 @@ module _ (𝓜 : Machine) where
     log b [] = []
     log b (c ∷ cs) = happens b c ++ log (stepIn b c) cs
 
+    -- the calls, each with the stock that it found
+    abbrev pub asked : Book → Calls → List (On Asked)
+    asked b [] = []
+    asked b (c ∷ cs) = record { at = c .at; it = record { call = c .it; found = stock b (c .at) } } ∷ asked (stepIn b c) cs
+
     -- settled to T: nothing is due at T, and nothing later was settled
     pub record SettledTo (T : ℕ) (b : Book) (cs : Calls) : Type 0 where
       pub nothing-left : (i : ℕ) → i < length b → settles T (stock (run b cs) i) ≡ 14
@@ -186,7 +214,7 @@ module _ (𝓜 : Machine) where
     ByHistory = (b : Book) (cs : Calls) (i : ℕ) → i < length b
         → Lawful (stock b i) (of i (log b cs)) × (stock (run b cs) i ≡ left (stock b i) (of i (log b cs)))
 
-    -- the same messages to each stock, both settled to one time: equal stocks and equal dated notices
+    -- where the stocks get the same messages and both books are settled to one time, the stocks and the dated notices are equal
     abbrev pub Alike : Type 0
     Alike = (b : Book) (cs ds : Calls) (T : ℕ) → SettledTo T b cs → SettledTo T b ds
         → ((i : ℕ) → messages (of i (log b cs)) ≡ messages (of i (log b ds)))

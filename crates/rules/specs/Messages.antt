@@ -63,7 +63,7 @@ letter (P time participant) = letter-P
 letter (R time participant price) = letter-R
 letter (X time participant price) = letter-X
 
--- its time
+-- a message's time
 abbrev pub timeOf : Message → ℕ
 timeOf (T time price) = time
 timeOf (Q time participant bid offer) = time
@@ -72,13 +72,13 @@ timeOf (P time participant) = time
 timeOf (R time participant price) = time
 timeOf (X time participant price) = time
 
--- whether the state takes a message of the kind: 0, or the number that refuses it; there is no state over 5
+-- whether the state takes a message of the kind: 0, or the number that refuses it; a state over 5 refuses as Closed does
 unfoldable pub taken : ℕ → ℕ → ℕ
 taken kind state = if ltb state 6 then entry table kind state else 7
 
 -- ------------------------------------------------------------------ "Messages": what each does, the clock being at its time
 
--- a trade has joined: in Waiting, at 300,000 or later, the mean is the first reference; in Trading the Test follows
+-- a trade has joined: in Waiting, from 300,000 on, the mean is the first reference; Trading makes the Test
 unfoldable pub tradeRules : Figures → Stock → Stock
 tradeRules f s = if is Waiting s then (if leb 300_000 (clockOf s) then begin-trading (meanIn f) s else s) else test f s
 

@@ -45,7 +45,7 @@ mark-f = 102
 abbrev pub mark-h : ℕ
 mark-h = 104
 
--- none: zeros
+-- no moment: mark 0 and time 0
 abbrev pub no-moment : Moment
 no-moment = record { mark = 0; time = 0 }
 
@@ -61,7 +61,7 @@ infix 5 _at_while_
 abbrev pub _at_while_ : ℕ → ℕ → Bool → Row
 mark at time while comes = record { mark = mark; time = time; comes = comes }
 
--- all of them, in the order of ties; v is of the oldest trade
+-- all moments, in the order of ties; v is that of the oldest trade
 unfoldable pub momentTable : Figures → Stock → List Row
 momentTable f s =
     (mark-z at s .end while leb (stateOf s) 2) ∷
@@ -75,7 +75,7 @@ momentTable f s =
     (mark-h at s .reference .start + 30_000 while allOf (leb 1 (stateOf s) ∷ leb (stateOf s) 4 ∷ not (eqb (s .reference .hold) 0) ∷ [])) ∷
     []
 
--- a row before what the rows after it give: the earlier one, and of two at one time the row
+-- the earlier of a row and what the rows after it give; of two at one time the row
 unfoldable pub sooner : Row → Moment → Moment
 sooner r m =
     if not (r .comes) then m else
@@ -105,7 +105,7 @@ pastAt time m = allOf (not (eqb (m .mark) 0) ∷ ltb (m .time) time ∷ [])
 unfoldable pub first-five : Figures → Stock → Stock
 first-five f s = if noTrades f then not-early s else begin-trading (meanIn f) (not-early s)
 
--- to the stock, with the figures of the window that it leaves; w changes k, and in Trading the bands with it
+-- the effect on the stock, with the figures of the window that the moment leaves; w changes k, and in Trading the bands with it
 unfoldable pub effect : ℕ → Figures → Stock → Stock
 effect mark f s =
     if eqb mark mark-z then shut s else
@@ -117,14 +117,14 @@ effect mark f s =
     if eqb mark mark-f then first-five f s else
     test f (hold-ended s)
 
--- to the window: v lets trades leave, z and c empty it
+-- the effect on the window: v lets trades leave, z and c empty it
 unfoldable pub windowAfter : Moment → List Trade → List Trade
 windowAfter m w =
     if eqb (m .mark) mark-v then staying (m .time) w else
     if anyOf (eqb (m .mark) mark-z ∷ eqb (m .mark) mark-c ∷ []) then [] else
     w
 
--- to both, the clock being at the moment's time
+-- the effect on both; the clock moves to the moment's time
 unfoldable pub come : Moment → Whole → Whole
 come m h =
     let w = windowAfter m (h .window) in
@@ -134,6 +134,6 @@ come m h =
 abbrev pub nextOf : Whole → Moment
 nextOf h = next (figuresOf (h .window)) (h .stock)
 
--- the stock after it
+-- the stock after its earliest moment
 unfoldable pub fire : Whole → Whole
 fire h = come (nextOf h) h

@@ -20,6 +20,7 @@ use Rattle.rules.specs.declared.Moment.{Moment}
 use Rattle.rules.specs.declared.Best.{Best}
 use Rattle.rules.specs.declared.Answer.{Answer}
 use Rattle.rules.specs.declared.Notice.{Notice}
+use Rattle.rules.specs.declared.Upcoming.{Upcoming}
 use Rattle.rules.specs.declared.Message.{Message}
 use Rattle.rules.specs.declared.Message.the-variants.{Trade as T, Quote as Q, Opening as O, Pause as P, Reopening as R, Closing as X}
 
@@ -33,19 +34,19 @@ notSide price = ltb 999_999_999 price
 unfoldable pub notPrice : ℕ → Bool
 notPrice price = anyOf (eqb price 0 ∷ notSide price ∷ [])
 
--- participants are 0 to 15
+-- a participant is 0 to 15
 abbrev pub notParticipant : ℕ → Bool
 notParticipant participant = ltb 15 participant
 
--- times run to E + 300,000
+-- a time is at most E + 300,000
 abbrev pub notTime : ℕ → ℕ → Bool
 notTime end time = ltb (end + 300_000) time
 
--- the session's end is 3,600,000 to 23,400,000
+-- the session's end is from 3,600,000 up to 23,400,000
 unfoldable pub badEnd : ℕ → Bool
 badEnd end = anyOf (ltb end 3_600_000 ∷ ltb 23_400_000 end ∷ [])
 
--- tier 1 or 2, leverage 1 to 3 and in tier 1 only 1, a participant, a price
+-- the tier is 1 or 2, the leverage 1 to 3 and in tier 1 only 1; the primary is a participant, the close a price
 unfoldable pub badSetup : Setup → Bool
 badSetup u = anyOf (
     eqb (u .tier) 0 ∷
@@ -59,7 +60,7 @@ badSetup u = anyOf (
 
 -- ------------------------------------------------------------------ "Numbers given back": what is rubbish
 
--- a kept time is out of range, a stale one too
+-- a kept time is out of range; stale ones are checked too
 unfoldable pub badTimes : Stock → Bool
 badTimes s = anyOf (
     notTime (s .end) (clockOf s) ∷
@@ -68,15 +69,15 @@ badTimes s = anyOf (
     notTime (s .end) (s .course .pause) ∷
     [])
 
--- a quote is out of range
+-- one was out of range before, or this side of a quote is
 unfoldable pub orNotSide : Bool → ℕ → Bool
 orNotSide bad price = if bad then true else notSide price
 
--- of all bids and offers
+-- a bid or an offer is out of range
 unfoldable pub badQuotes : Quotes → Bool
 badQuotes q = foldl orNotSide (foldl orNotSide false (q .bids)) (q .offers)
 
--- a reference is over the price range, or 0 in states 1 to 4
+-- the reference is above every price, or missing in Trading, Limit or a pause
 unfoldable pub badReference : Stock → Bool
 badReference s = anyOf (
     ltb 999_999_999 (s .reference .price) ∷
@@ -88,19 +89,21 @@ pub record Seen : Type 0 where
   pub bad : Bool
   pub last : ℕ
 
--- its price is out of range, or it is after the clock (so that a time out of range is bad too), or before the trade ahead of it
+-- a held trade is bad: its price is out of range, or its time is after the clock (so that a time out of range is bad too) or before that of the
+-- previous trade
 unfoldable pub badTrade : ℕ → ℕ → Trade → Bool
 badTrade clock last t = anyOf (notPrice (t .price) ∷ ltb clock (t .at) ∷ ltb (t .at) last ∷ [])
 
--- one trade more
+-- the trades gone over, with one more
 unfoldable pub see : ℕ → Seen → Trade → Seen
 see clock seen t = record { bad = if seen .bad then true else badTrade clock (seen .last) t; last = t .at }
 
--- of all held trades
+-- a held trade is bad
 unfoldable pub badTrades : ℕ → List Trade → Bool
 badTrades clock w = foldl (see clock) (record { bad = false; last = 0 }) w .bad
 
--- of a stock whatever its window: a state over 5; one of these; Paused with a pause start of E - 600,000 or later
+-- a stock is bad whatever its window: its state is over 5, a part of it is out of range, or it is Paused although the pause
+-- began at E - 600,000 or after it
 unfoldable pub badStock : Stock → Bool
 badStock s = anyOf (
     ltb 5 (stateOf s) ∷
@@ -112,7 +115,7 @@ badStock s = anyOf (
     allOf (is Paused s ∷ leb (s .end - 600_000) (s .course .pause) ∷ []) ∷
     [])
 
--- such a stock; over 512 trades; a bad one among them; a moment still to come and past
+-- a stock is rubbish: it is bad, it has over 512 trades or a bad one, or a moment still to come is past
 unfoldable pub rubbish : Whole → Bool
 rubbish h = let s = h .stock in anyOf (
     badStock s ∷
@@ -123,7 +126,7 @@ rubbish h = let s = h .stock in anyOf (
 
 -- ------------------------------------------------------------------ "Numbers given back": the first checks of every call but setup
 
--- 1 to 64 stocks, and 512 places of each array for each
+-- the shape is wrong: a book has 1 to 64 stocks, and 512 places of each array for each
 unfoldable pub badShape : ℕ → ℕ → ℕ → Bool
 badShape stocks times prices = anyOf (
     eqb stocks 0 ∷
@@ -163,7 +166,7 @@ notPrimary primary (X time participant price) = not (eqb participant primary)
 unfoldable pub outside : Stock → ℕ → Bool
 outside s price = allOf (inForce s ∷ anyOf (ltb price (bandsIn s .lower) ∷ ltb (bandsIn s .upper) price ∷ []) ∷ [])
 
--- the last checks, of each message its own; of the window they ask how many trades it holds
+-- the last checks, which differ from message to message; of the window they use only the number of trades
 unfoldable pub ownChecks : Message → ℕ → Stock → List Check
 ownChecks (T time price) held s = 12 when outside s price ∷ 13 when leb 512 held ∷ []
 ownChecks (Q time participant bid offer) held s = []
@@ -185,7 +188,7 @@ messageChecks m held earliest s =
     8 when notPrimary (s .setup .primary) m ∷
     tableCheck (taken (kind m) (stateOf s)) (ownChecks m held s)
 
--- all of them in their order
+-- all checks of a message, in their order
 unfoldable pub checks : Message → Whole → List Check
 checks m h = 1 when rubbish h ∷ messageChecks m (length (h .window)) (nextOf h) (h .stock)
 
@@ -202,7 +205,7 @@ timeChecks time earliest s =
     14 when not (dueBy time earliest) ∷
     []
 
--- all of them in their order
+-- all checks of settling, in their order
 unfoldable pub settleChecks : ℕ → Whole → List Check
 settleChecks time h = 1 when rubbish h ∷ timeChecks time (nextOf h) (h .stock)
 
@@ -212,7 +215,7 @@ settles time h = first (settleChecks time h)
 
 -- ------------------------------------------------------------------ "Numbers given back": the check of reading
 
--- reading a stock looks at its rubbish alone
+-- reading a stock checks only whether it is rubbish
 unfoldable pub readChecks : Whole → List Check
 readChecks h = 1 when rubbish h ∷ []
 
@@ -228,41 +231,57 @@ noBest = record { bid = record { price = 0; flag = 0 }; offer = record { price =
 
 -- a number with zeros beside it
 abbrev pub zeros : ℕ → Answer
-zeros number = record { number = number; state = 0; reference = 0; bands = record { lower = 0; upper = 0 }; best = noBest }
+zeros number = record { number = number; state = 0; reference = 0; lower = 0; upper = 0; best = noBest }
 
 -- a number with what the stock shows; after 1, 2 and 3 zeros
 unfoldable pub answer : ℕ → Stock → Answer
 answer number s =
     if anyOf (eqb number 1 ∷ eqb number 2 ∷ eqb number 3 ∷ []) then zeros number else
-    record { number = number; state = stateOf s; reference = s .reference .price; bands = bandsIn s; best = bestOf s }
+    record { number = number; state = stateOf s; reference = s .reference .price; lower = bandsIn s .lower; upper = bandsIn s .upper; best = bestOf s }
 
--- the stock after a call: as the rules make it where the number is 0, and as it stood where not
+-- the stock after a message: as the rules make it where the number is 0, else as it was
 unfoldable pub afterTelling : Message → Whole → Whole
 afterTelling m h = if eqb (tells m h) 0 then after m h else h
 
--- settling, likewise: its moment has happened
+-- the stock after settling: with its earliest moment done where the number is 0, else as it was
 unfoldable pub afterSettling : ℕ → Whole → Whole
 afterSettling time h = if eqb (settles time h) 0 then fire h else h
 
--- what a message is answered: the number, and the stock as it is then
+-- the answer to a message: the number, and what the stock then shows
 unfoldable pub tellAnswer : Message → Whole → Answer
 tellAnswer m h = answer (tells m h) (afterTelling m h .stock)
 
--- what reading is answered: the number, and the stock as it stands
+-- the answer to reading: the number, and what the stock shows
 unfoldable pub readAnswer : Whole → Answer
 readAnswer h = answer (reads h) (h .stock)
 
+-- a number with no moment
+abbrev pub noneComing : ℕ → Upcoming
+noneComing number = record { number = number; mark = 0; time = 0 }
+
+-- the answer to asking what comes next: the number of reading, and where it is 0 the stock's earliest moment
+unfoldable pub nextAnswer : Whole → Upcoming
+nextAnswer h = if eqb (reads h) 0 then record { number = 0; mark = nextOf h .mark; time = nextOf h .time } else noneComing (reads h)
+
+-- an answer with the mark and the time of a moment
+abbrev pub beside : Moment → Answer → Notice
+beside m a = record { answer = a; mark = m .mark; time = m .time }
+
+-- a number with zeros beside it, and no moment
+abbrev pub noNotice : ℕ → Notice
+noNotice number = beside no-moment (zeros number)
+
 -- the dated notice of a moment: the answer, with the mark and the time
 unfoldable pub notice : Whole → Notice
-notice h = record { answer = answer 0 (fire h .stock); moment = nextOf h }
+notice h = beside (nextOf h) (answer 0 (fire h .stock))
 
--- what settling is answered: the notice, or zeros for the mark and the time where it did no moment
+-- the answer to settling: the notice, or zeros for the mark and the time where no moment was done
 unfoldable pub settleAnswer : ℕ → Whole → Notice
-settleAnswer time h = if eqb (settles time h) 0 then notice h else record { answer = answer (settles time h) (h .stock); moment = no-moment }
+settleAnswer time h = if eqb (settles time h) 0 then notice h else beside no-moment (answer (settles time h) (h .stock))
 
 -- ------------------------------------------------------------------ "What the book holds": setup; its checks, "Numbers given back"
 
--- Waiting, no quotes, every clock 0, no trade
+-- a stock after setup: Waiting, no quotes, every clock 0, no trade
 unfoldable pub fresh : ℕ → Setup → Whole
 fresh end u = record {
   stock = record {
@@ -275,11 +294,11 @@ fresh end u = record {
   window = [];
 }
 
--- a setup is out of range
+-- one was out of range before, or this setup is
 unfoldable pub orBadSetup : Bool → Setup → Bool
 orBadSetup bad u = if bad then true else badSetup u
 
--- its own checks: 1 for the shape and the list, 2 for what is out of range
+-- the checks of a setup: 1 for the shape and the list, 2 for what is out of range
 unfoldable pub setupChecks : ℕ → ℕ → ℕ → ℕ → List Setup → List Check
 setupChecks stocks times prices end us =
     1 when anyOf (badShape stocks times prices ∷ not (eqb (length us) stocks) ∷ []) ∷
@@ -290,6 +309,6 @@ setupChecks stocks times prices end us =
 unfoldable pub setsUp : ℕ → ℕ → ℕ → ℕ → List Setup → ℕ
 setsUp stocks times prices end us = first (setupChecks stocks times prices end us)
 
--- and its answer: zeros beside the number
+-- the answer to a setup: the number with zeros
 unfoldable pub setupAnswer : ℕ → ℕ → ℕ → ℕ → List Setup → Answer
 setupAnswer stocks times prices end us = zeros (setsUp stocks times prices end us)

@@ -28,7 +28,7 @@ abbrev pub PauseAt : ℕ → Whole → Story → Type 0
 PauseAt time h [] = ⊥
 PauseAt time h (message m ∷ es) = PauseAt time (becomes machine h (message m)) es
 PauseAt time h (moment n ∷ es) =
-    (n .moment .time ≡ time and ¬ InPause h and InPause (becomes machine h (moment n)))
+    (n .time ≡ time and ¬ InPause h and InPause (becomes machine h (moment n)))
     or PauseAt time (becomes machine h (moment n)) es
 
 -- an event of the story, dated `time`, started a pause, and that pause has lasted to the story's end

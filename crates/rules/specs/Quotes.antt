@@ -6,14 +6,14 @@ use mathlib.Core.List.{List, [], _∷_, foldl}
 use lib.Dec.{ltb, eqb}
 use Rattle.forms.specs.Choice.{if_then_else_, allOf, anyOf}
 use Rattle.band.specs.Band.{percentOf, factorOf, bandsOf}
-use Rattle.band.specs.declared.Limits.{Limits}
+use Rattle.band.specs.declared.Bands.{Bands}
 use Rattle.rules.specs.Stock.{Trading, Limit, is, clockOf}
 use Rattle.rules.specs.declared.Stock.{Stock}
 use Rattle.rules.specs.declared.Best.{Best}
 
 -- ------------------------------------------------------------------ "Quotes and flags": bands in force; "Band arithmetic"
 
--- bands are in force in Trading and Limit only
+-- the states that have bands: Trading and Limit
 unfoldable pub inForce : Stock → Bool
 inForce s = anyOf (is Trading s ∷ is Limit s ∷ [])
 
@@ -22,7 +22,7 @@ unfoldable pub kTime : Stock → ℕ
 kTime s = if is Limit s then s .course .entry else clockOf s
 
 -- lower and upper, 0 outside the states in which bands are in force
-unfoldable pub bandsIn : Stock → Limits
+unfoldable pub bandsIn : Stock → Bands
 bandsIn s =
     if inForce s then
     bandsOf (s .reference .price) 1 (percentOf (s .setup .tier) (s .setup .close)) (factorOf (s .setup .leverage) (kTime s) (s .end))
@@ -45,21 +45,21 @@ lesser on lower best offer =
 unfoldable pub bestBid : Bool → ℕ → List ℕ → ℕ
 bestBid on upper bids = foldl (higher on upper) 0 bids
 
--- the best offer, likewise
+-- the best offer of all participants, 0 where none counts
 unfoldable pub bestOffer : Bool → ℕ → List ℕ → ℕ
 bestOffer on lower offers = foldl (lesser on lower) 0 offers
 
 -- ------------------------------------------------------------------ "Quotes and flags": the four flags
 
--- 0 absent, 1 plain, 2 non-executable, 3 limit: a best bid under the lower band has 2, one at the upper band 3
-unfoldable pub bidFlag : Bool → Limits → ℕ → ℕ
+-- the flag of a best bid: 0 where it is absent, 2 (non-executable) under the lower band, 3 (limit) at the upper band, else 1 (plain)
+unfoldable pub bidFlag : Bool → Bands → ℕ → ℕ
 bidFlag on bands bid =
     if eqb bid 0 then 0 else
     if on then (if ltb bid (bands .lower) then 2 else if eqb bid (bands .upper) then 3 else 1) else
     1
 
--- a best offer over the upper band has 2, one at the lower band 3
-unfoldable pub offerFlag : Bool → Limits → ℕ → ℕ
+-- the flag of a best offer: 0 where it is absent, 2 over the upper band, 3 at the lower band, else 1
+unfoldable pub offerFlag : Bool → Bands → ℕ → ℕ
 offerFlag on bands offer =
     if eqb offer 0 then 0 else
     if on then (if ltb (bands .upper) offer then 2 else if eqb offer (bands .lower) then 3 else 1) else
@@ -86,6 +86,6 @@ atLimit s = flagged 3 (bestOf s)
 abbrev pub straddle : Stock → Bool
 straddle s = flagged 2 (bestOf s)
 
--- the best bid is above the best offer; an absent side crosses nothing
+-- the best bid is higher than the best offer; where a side is absent nothing crosses
 unfoldable pub crossed : Best → Bool
 crossed b = if eqb (b .offer .price) 0 then false else ltb (b .offer .price) (b .bid .price)

@@ -1,5 +1,5 @@
 -- A stock read off its accepted history (demand 2): what document 01 says of held trades, quotes, the reference and the clock in "States",
--- "Moments" and "Messages". What one event does is said in words (`Changes`); the window at an event that starts a reference is the stock's.
+-- "Moments" and "Messages". `Changes` says in words what one event does; the window at an event that starts a reference is the stock's.
 -- Assumes nothing.
 use Prim.Native.Nat.{ℕ, _+_}
 use mathlib.Core.List.{List, [], _∷_}
@@ -13,16 +13,16 @@ use Rattle.rules.specs.declared.Notice.{Notice}
 
 -- the mark of a notice
 abbrev pub markOf : Notice → ℕ
-markOf n = n .moment .mark
+markOf n = n .mark
 
 -- ------------------------------------------------------------------ the held trades and the quotes
 
--- the trades since the last opening or reopening, whose price is the first of them, of which w were there before the story
+-- the trades since the last opening or reopening, whose price is the first of them; w are the trades before the story
 abbrev pub joined : List Trade → Story → List Trade
 joined w [] = w
 joined w (e ∷ es) = joined (joins w e) es
 
--- the last bid and offer of participant i, of which `last` were the ones before the story
+-- the last bid and offer of participant i; `last` are those before the story
 abbrev pub lastQuote : ℕ → ℕ × ℕ → Story → ℕ × ℕ
 lastQuote i last [] = last
 lastQuote i last (e ∷ es) = lastQuote i (quoteBy i last e) es

@@ -1,4 +1,4 @@
--- The state rules (document 01, "States"; of pauses and closing, "Moments"). Of the window they ask its figures.
+-- The state rules (document 01, "States"; for pauses and closing, "Moments"). Of the window they use only the figures.
 -- Assumes nothing.
 use Prim.Native.Nat.{ℕ, _-_}
 use mathlib.Core.Bool.{not}
@@ -13,7 +13,7 @@ use Rattle.rules.specs.declared.Quotes.{Quotes}
 use Rattle.rules.specs.declared.Stock.{Stock}
 use Rattle.rules.specs.declared.Figures.{Figures}
 
--- Looking at the quotes: Trading enters Limit when a side has flag 3 and the best bid is not above the best offer.
+-- Looking at the quotes: from Trading to Limit, if flag 3 is on a side and the quotes do not cross.
 unfoldable pub look : Stock → Stock
 look s = if allOf (is Trading s ∷ atLimit s ∷ not (crossed (bestOf s)) ∷ []) then enter-limit s else s
 
@@ -21,7 +21,7 @@ look s = if allOf (is Trading s ∷ atLimit s ∷ not (crossed (bestOf s)) ∷ [
 unfoldable pub begin-trading : ℕ → Stock → Stock
 begin-trading price s = look (in-state Trading (refer-to price s))
 
--- Limit ends when neither side has flag 3; the reference becomes the window's mean, or stays where there is no trade.
+-- Leaving Limit, once flag 3 is on no side: the mean of the window is the new reference, and without a trade the old one stays.
 unfoldable pub leave : Figures → Stock → Stock
 leave f s = if atLimit s then s else begin-trading (if noTrades f then s .reference .price else meanIn f) s
 
@@ -31,14 +31,14 @@ test f s =
     if allOf (is Trading s ∷ eqb (s .reference .hold) 0 ∷ not (noTrades f) ∷ movesOf (meanIn f) 1 (s .reference .price) 1 ∷ [])
     then look (refer-to (meanIn f) s) else s
 
--- a pause starts now; begun at E - 600,000 or later, it is a Late pause
+-- a pause starts now; from E - 600,000 on it is a Late pause
 unfoldable pub begin-pause : Stock → Stock
 begin-pause s = enter-pause (if leb (s .end - 600_000) (clockOf s) then Late else Paused) s
 
--- every side of every participant absent
+-- quotes with every side of every participant absent
 abbrev pub noQuotes : Quotes
 noQuotes = record { bids = replicate 16 0; offers = replicate 16 0 }
 
--- Closed empties the quotes and leaves the reference; the window is emptied beside it
+-- Closed empties the quotes and keeps the reference; the window is emptied apart from this
 unfoldable pub shut : Stock → Stock
 shut s = in-state Closed (with-quotes noQuotes s)

@@ -45,7 +45,7 @@ Paused = 3
 abbrev pub Late : ℕ
 Late = 4
 
--- for the rest of the day
+-- closed for the rest of the day
 abbrev pub Closed : ℕ
 Closed = 5
 
@@ -53,63 +53,63 @@ Closed = 5
 abbrev pub stateOf : Stock → ℕ
 stateOf s = s .course .state
 
--- the time of its last accepted message or settled moment
+-- the time of what last happened to a stock: a message was accepted or a moment settled
 abbrev pub clockOf : Stock → ℕ
 clockOf s = s .course .clock
 
--- it is in that state
+-- the stock is in that state
 abbrev pub is : ℕ → Stock → Bool
 is state s = eqb (stateOf s) state
 
--- ------------------------------------------------------------------ a stock with something set anew
+-- ------------------------------------------------------------------ setters
 
--- another course: state, clock, and what is kept with them
+-- the stock with another course: state, clock, and what is kept with them
 abbrev pub with-course : Course → Stock → Stock
 with-course c s = record { setup = s .setup; end = s .end; course = c; reference = s .reference; quotes = s .quotes }
 
--- other quotes
+-- the stock with other quotes
 abbrev pub with-quotes : Quotes → Stock → Stock
 with-quotes q s = record { setup = s .setup; end = s .end; course = s .course; reference = s .reference; quotes = q }
 
--- another reference
+-- the stock with another reference
 abbrev pub with-reference : Reference → Stock → Stock
 with-reference r s = record { setup = s .setup; end = s .end; course = s .course; reference = r; quotes = s .quotes }
 
--- the clock is at `time`
+-- the stock with its clock at `time`
 abbrev pub at-time : ℕ → Stock → Stock
 at-time time s =
     let c = s .course in
     with-course (record { state = c .state; clock = time; early = c .early; entry = c .entry; pause = c .pause }) s
 
--- another state
+-- the stock in another state
 abbrev pub in-state : ℕ → Stock → Stock
 in-state state s =
     let c = s .course in
     with-course (record { state = state; clock = c .clock; early = c .early; entry = c .entry; pause = c .pause }) s
 
--- Limit, entered now
+-- the stock in Limit, entered now
 abbrev pub enter-limit : Stock → Stock
 enter-limit s =
     let c = s .course in
     with-course (record { state = Limit; clock = c .clock; early = c .early; entry = c .clock; pause = c .pause }) s
 
--- a pause of either kind, started now
+-- the stock in a pause of either kind, started now
 abbrev pub enter-pause : ℕ → Stock → Stock
 enter-pause state s =
     let c = s .course in
     with-course (record { state = state; clock = c .clock; early = c .early; entry = c .entry; pause = c .clock }) s
 
--- the moment f has happened
+-- the stock once the moment f has happened
 abbrev pub not-early : Stock → Stock
 not-early s =
     let c = s .course in
     with-course (record { state = c .state; clock = c .clock; early = 0; entry = c .entry; pause = c .pause }) s
 
--- the reference `price`, started now, with a new hold
+-- the stock with the reference `price`, started now, with a new hold
 abbrev pub refer-to : ℕ → Stock → Stock
 refer-to price s = with-reference (record { price = price; start = clockOf s; hold = 1 }) s
 
--- the moment h has happened
+-- the stock once the moment h has happened
 abbrev pub hold-ended : Stock → Stock
 hold-ended s = with-reference (record { price = s .reference .price; start = s .reference .start; hold = 0 }) s
 
@@ -124,7 +124,7 @@ unfoldable pub oldest : List Trade → ℕ
 oldest [] = 0
 oldest (t ∷ ts) = t .at
 
--- what the state rules ask of a window: count, oldest, sum
+-- the figures of a window that the state rules use: count, oldest, sum
 unfoldable pub figuresOf : List Trade → Figures
 figuresOf w = record { count = length w; oldest = oldest w; sum = total w }
 
@@ -132,11 +132,11 @@ figuresOf w = record { count = length w; oldest = oldest w; sum = total w }
 abbrev pub noTrades : Figures → Bool
 noTrades f = eqb (f .count) 0
 
--- the mean of its prices, by "Band arithmetic"
+-- the mean of the window's prices, by "Band arithmetic"
 abbrev pub meanIn : Figures → ℕ
 meanIn f = meanOf (f .sum) (f .count)
 
--- A trade of time u leaves at u + 300,000: the trades that have not left at `time`. The oldest stand first.
+-- The trades that have not left at `time`, when each stays for 300,000. The oldest stand first.
 unfoldable pub staying : ℕ → List Trade → List Trade
 staying time [] = []
 staying time (t ∷ ts) = if ltb time (t .at + 300_000) then t ∷ ts else staying time ts

@@ -1,8 +1,8 @@
--- Document 01 in words: ranges, quotes, moments, rubbish, numbers and answers, in the order of its sections. Each name is a proposition
--- over numbers, or a table of such: no test of the rules is asked. From the rules it takes names only, of states (Stock), of marks (Moments)
--- and of fields; from the crate band, the bands, and its words for the mean and one percent. The demands `numbers`, `book-numbers`,
--- `setup-numbers`, `moments-are`, `shows`, `answers` and `mean` say that the rules compute this. Bytes, and what a refusal leaves of them, are
--- stated in the crates stock and book.
+-- Document 01 in words: ranges, quotes, moments, rubbish, numbers and answers, in the order of its sections. Each name is a proposition over
+-- numbers, or a table of such: no test of the rules is used. From the rules it takes only the names of states (Stock), of marks (Moments) and of
+-- fields; from the crate band it takes the bands, and the words for the mean and one percent. The demands `numbers`, `book-numbers`,
+-- `setup-numbers`, `moments-are`, `shows`, `answers` and `mean` say that the rules compute this. The crates stock and book state what bytes mean,
+-- and what a refusal leaves of them.
 --
 -- To read it: `A and B`, `A or B`, `¬ A` are "and", "or", "not", and "and" binds before "or"; `a ≡ b` is "equals"; `(x : ℕ) × A` is "there is
 -- a number x with A"; `(x : ℕ) → A` is "for every x, A"; `n for A` is a row of a table: the number n, given where A holds and no row
@@ -16,15 +16,17 @@ use Rattle.forms.specs.Words.{_or_, _and_, Some, IsOneOf, Number, Gives, Otherw
 use Rattle.forms.specs.Words.Number.{_for_}
 use Rattle.band.specs.Band.{percentOf, factorOf, bandsOf}
 use Rattle.band.specs.Words as arithmetic
-use Rattle.band.specs.declared.Limits.{Limits}
+use Rattle.band.specs.declared.Bands.{Bands}
 use Rattle.rules.specs.Stock.{Trade, Whole, Waiting, Trading, Limit, Paused, Late, Closed, stateOf, clockOf}
 use Rattle.rules.specs.Moments.{mark-z, mark-w, mark-x, mark-p, mark-c, mark-v, mark-f, mark-h}
 use Rattle.rules.specs.declared.Side.{Side}
 use Rattle.rules.specs.declared.Answer.{Answer}
+use Rattle.rules.specs.declared.Notice.{Notice}
 use Rattle.rules.specs.declared.Setup.{Setup}
 use Rattle.rules.specs.declared.Quotes.{Quotes}
 use Rattle.rules.specs.declared.Stock.{Stock}
 use Rattle.rules.specs.declared.Moment.{Moment}
+use Rattle.rules.specs.declared.Upcoming.{Upcoming}
 use Rattle.rules.specs.declared.Message.{Message}
 use Rattle.rules.specs.declared.Message.the-variants.{Trade as T, Quote as Q, Opening as O, Pause as P, Reopening as R, Closing as X}
 
@@ -44,19 +46,19 @@ IsPrice price = 1 ≤ price and price ≤ 999_999_999
 abbrev pub IsSide : ℕ → Type 0
 IsSide price = price ≤ 999_999_999
 
--- participants are 0 to 15
+-- a participant is 0 to 15
 abbrev pub IsParticipant : ℕ → Type 0
 IsParticipant participant = participant ≤ 15
 
--- the session's end E is 3,600,000 to 23,400,000
+-- the session's end E is from 3,600,000 up to 23,400,000
 abbrev pub IsEnd : ℕ → Type 0
 IsEnd end = 3_600_000 ≤ end and end ≤ 23_400_000
 
--- times run to E + 300,000
+-- a time is at most E + 300,000
 abbrev pub IsTime : ℕ → ℕ → Type 0
 IsTime end time = time ≤ end + 300_000
 
--- tier 1 or 2; leverage 1, 2 or 3, and in tier 1 only 1; the primary is a participant, the previous close a price
+-- the tier is 1 or 2, the leverage at most 3 and in tier 1 only 1; the primary is a participant, the previous close a price
 abbrev pub IsSetup : Setup → Type 0
 IsSetup u =
     1 ≤ u .tier and u .tier ≤ 2
@@ -72,31 +74,31 @@ abbrev pub sumOf : List Trade → ℕ
 sumOf [] = 0
 sumOf (t ∷ ts) = t .price + sumOf ts
 
--- the mean of trades, in band's words: the whole number nearest to their sum by their count, a half going up; of no trade there is none
+-- the mean of trades, in band's words: the whole number nearest to their sum by their count, a half going up; without a trade there is none
 abbrev pub IsMean : List Trade → ℕ → Type 0
 IsMean w mean = arithmetic.IsMean (sumOf w) (length w) mean
 
--- 100 x |mean - reference| >= reference, in band's words, of fractions over 1
+-- 100 x |mean - reference| >= reference, in band's words; both are fractions over 1
 abbrev pub OnePercent : ℕ → ℕ → Type 0
 OnePercent mean reference = arithmetic.OnePercent mean 1 reference 1
 
 -- ------------------------------------------------------------------ "Quotes and flags"
 
 -- the bands of the reference, a fraction over 1, by the stock's close, and by the k of a time ("Band arithmetic")
-abbrev pub bandsAt : Stock → ℕ → Limits
+abbrev pub bandsAt : Stock → ℕ → Bands
 bandsAt s time = bandsOf (s .reference .price) 1 (percentOf (s .setup .tier) (s .setup .close)) (factorOf (s .setup .leverage) time (s .end))
 
--- bands are in force in Trading and Limit only; in Limit k is that of the entry's time
-abbrev pub Bands : Stock → Limits → Type 0
-Bands s l = (stateOf s ≡ Trading and l ≡ bandsAt s (clockOf s)) or (stateOf s ≡ Limit and l ≡ bandsAt s (s .course .entry))
+-- the bands in force: in Trading by the k of the clock, in Limit by the k at its entry, and none elsewhere
+abbrev pub HasBands : Stock → Bands → Type 0
+HasBands s l = (stateOf s ≡ Trading and l ≡ bandsAt s (clockOf s)) or (stateOf s ≡ Limit and l ≡ bandsAt s (s .course .entry))
 
--- a bid counts that is present and not above the upper band in force
+-- a bid counts if it is present and not above the upper band in force
 abbrev pub BidCounts : Stock → ℕ → Type 0
-BidCounts s bid = 1 ≤ bid and ((l : Limits) → Bands s l → bid ≤ l .upper)
+BidCounts s bid = 1 ≤ bid and ((l : Bands) → HasBands s l → bid ≤ l .upper)
 
--- an offer counts that is present and not below the lower band in force
+-- an offer counts if it is present and not below the lower band in force
 abbrev pub OfferCounts : Stock → ℕ → Type 0
-OfferCounts s offer = 1 ≤ offer and ((l : Limits) → Bands s l → l .lower ≤ offer)
+OfferCounts s offer = 1 ≤ offer and ((l : Bands) → HasBands s l → l .lower ≤ offer)
 
 -- the best bid is the highest that counts
 abbrev pub BestBid : Stock → ℕ → Type 0
@@ -112,13 +114,13 @@ BestOffer s best =
 
 -- a straddle, which is flag 2 on a side: the best bid is below the lower band, or the best offer above the upper
 abbrev pub Straddle : Stock → Type 0
-Straddle s = (l : Limits) × Bands s l × (((bid : ℕ) × BestBid s bid × (bid < l .lower)) or ((offer : ℕ) × BestOffer s offer × (l .upper < offer)))
+Straddle s = (l : Bands) × HasBands s l × (((bid : ℕ) × BestBid s bid × (bid < l .lower)) or ((offer : ℕ) × BestOffer s offer × (l .upper < offer)))
 
 -- flag 3 on a side: the best bid is the upper band, or the best offer the lower
 abbrev pub AtBand : Stock → Type 0
-AtBand s = (l : Limits) × Bands s l × (BestBid s (l .upper) or BestOffer s (l .lower))
+AtBand s = (l : Bands) × HasBands s l × (BestBid s (l .upper) or BestOffer s (l .lower))
 
--- the best bid is above the best offer; an absent side crosses nothing
+-- the best bid is higher than the best offer; where a side is absent nothing crosses
 abbrev pub Crossing : Stock → Type 0
 Crossing s = (bid : ℕ) × (offer : ℕ) × BestBid s bid × BestOffer s offer × (offer < bid)
 
@@ -127,18 +129,18 @@ abbrev pub BidShown : Stock → Side → Type 0
 BidShown s bid =
     (¬ ((b : ℕ) × BestBid s b) and bid .price ≡ 0 and bid .flag ≡ 0)
     or (BestBid s (bid .price) and Gives (
-    2 for ((l : Limits) × Bands s l × (bid .price < l .lower)) ∷
-    3 for ((l : Limits) × Bands s l × (bid .price ≡ l .upper)) ∷
+    2 for ((l : Bands) × HasBands s l × (bid .price < l .lower)) ∷
+    3 for ((l : Bands) × HasBands s l × (bid .price ≡ l .upper)) ∷
     1 for Otherwise ∷
     []) (bid .flag))
 
--- a best offer, likewise
+-- a best offer as it is shown: 0 with flag 0 where there is none; flag 2 non-executable, 3 limit, 1 plain
 abbrev pub OfferShown : Stock → Side → Type 0
 OfferShown s offer =
     (¬ ((o : ℕ) × BestOffer s o) and offer .price ≡ 0 and offer .flag ≡ 0)
     or (BestOffer s (offer .price) and Gives (
-    2 for ((l : Limits) × Bands s l × (l .upper < offer .price)) ∷
-    3 for ((l : Limits) × Bands s l × (offer .price ≡ l .lower)) ∷
+    2 for ((l : Bands) × HasBands s l × (l .upper < offer .price)) ∷
+    3 for ((l : Bands) × HasBands s l × (offer .price ≡ l .lower)) ∷
     1 for Otherwise ∷
     []) (offer .flag))
 
@@ -175,7 +177,7 @@ moments h =
     (mark-h at s .reference .start + 30_000 while Trading ≤ stateOf s and stateOf s ≤ Late and ¬ (s .reference .hold ≡ 0)) ∷
     []
 
--- one of them is still to come, at such a time
+-- one of the moments is still to come, and its time has the property
 abbrev pub Comes : (ℕ → Type 0) → List Coming → Type 0
 Comes At [] = ⊥
 Comes At (c ∷ cs) = (c .comes and At (c .time)) or Comes At cs
@@ -184,6 +186,10 @@ Comes At (c ∷ cs) = (c .comes and At (c .time)) or Comes At cs
 abbrev pub Due : ℕ → Whole → Type 0
 Due time h = Comes (λ t. t ≤ time) (moments h)
 
+-- the moment of a notice
+abbrev pub itsMoment : Notice → Moment
+itsMoment n = record { mark = n .mark; time = n .time }
+
 -- the moment m is the earliest still to come, and of two at one time the one that stands first
 abbrev pub IsFirst : Moment → List Coming → Type 0
 IsFirst m [] = ⊥
@@ -191,9 +197,13 @@ IsFirst m (c ∷ cs) =
     (c .comes and m .mark ≡ c .mark and m .time ≡ c .time and ¬ Comes (λ time. time < c .time) cs)
     or ((c .comes → m .time < c .time) and IsFirst m cs)
 
+-- no moment is still to come
+abbrev pub NoneComes : Whole → Type 0
+NoneComes h = ¬ Comes (λ time. Otherwise) (moments h)
+
 -- ------------------------------------------------------------------ "Numbers given back": rubbish
 
--- a kept time over E + 300,000, a stale one too
+-- a kept time is after E + 300,000; stale ones are checked too
 abbrev pub BadTime : Stock → Type 0
 BadTime s =
     ¬ IsTime (s .end) (clockOf s)
@@ -201,21 +211,21 @@ BadTime s =
     or ¬ IsTime (s .end) (s .course .entry)
     or ¬ IsTime (s .end) (s .course .pause)
 
--- a quote out of range
+-- a bid or an offer out of range
 abbrev pub BadQuote : Quotes → Type 0
 BadQuote q = Some (λ bid. ¬ IsSide bid) (q .bids) or Some (λ offer. ¬ IsSide offer) (q .offers)
 
--- a reference over the price range, or 0 in states 1 to 4
+-- a reference above every price, or none in Trading, Limit or a pause
 abbrev pub BadReference : Stock → Type 0
 BadReference s = ¬ (s .reference .price ≤ 999_999_999) or (s .reference .price ≡ 0 and Trading ≤ stateOf s and stateOf s ≤ Late)
 
--- a held trade with a price out of range, dated after the clock, or before the trade ahead of it; a time out of range is after the clock, or
+-- a held trade whose price is out of range, or whose time is after the clock or before that of the previous trade; a time out of range is after the clock, or
 -- the clock is out of range itself (`BadTime`)
 abbrev pub BadTrade : ℕ → ℕ → List Trade → Type 0
 BadTrade clock ahead [] = ⊥
 BadTrade clock ahead (t ∷ ts) = (¬ IsPrice (t .price) or clock < t .at or t .at < ahead) or BadTrade clock (t .at) ts
 
--- a state over 5; a setup number or E out of range; a bad kept time, quote or reference; in state 3 a pause start of E - 600,000 or later
+-- a state over 5; E or a number of the setup out of range; a bad kept time, quote or reference; Paused although the pause began at E - 600,000 or after it
 abbrev pub BadStock : Stock → Type 0
 BadStock s =
     Closed < stateOf s
@@ -226,7 +236,7 @@ BadStock s =
     or BadReference s
     or (stateOf s ≡ Paused and s .end - 600_000 ≤ s .course .pause)
 
--- all of it: that; over 512 trades; a bad trade; a moment still to come that is dated before the clock
+-- a stock is rubbish: it is bad, it has over 512 trades or a bad one, or the time of a moment still to come is before the clock
 abbrev pub Rubbish : Whole → Type 0
 Rubbish h =
     BadStock (h .stock)
@@ -245,12 +255,12 @@ OutOfRange end (P time participant) = ¬ IsParticipant participant or ¬ IsTime 
 OutOfRange end (R time participant price) = ¬ IsParticipant participant or ¬ IsPrice price or ¬ IsTime end time
 OutOfRange end (X time participant price) = ¬ IsParticipant participant or ¬ IsPrice price or ¬ IsTime end time
 
--- 12: a price outside bands in force; in Trading their k is that of the clock, and so that of the message's time, or a w is unsettled and
--- gives 6; in Limit it is that of the entry
+-- 12: a price outside bands in force. In Trading their k is that of the clock; it is also that of the message's time, since otherwise a w is
+-- unsettled and gives 6. In Limit their k is that of the entry
 abbrev pub Outside : Stock → ℕ → Type 0
-Outside s price = (l : Limits) × Bands s l × (price < l .lower or l .upper < price)
+Outside s price = (l : Bands) × HasBands s l × (price < l .lower or l .upper < price)
 
--- of each message the numbers from 8 on: the primary, the table of message by state (7, 9, 11), and its own
+-- the numbers of each message from 8 on: the primary, the table of message by state (7, 9, 11), and its own
 abbrev pub ownRefusals : Message → Whole → List Number
 ownRefusals (T time price) h =
     let s = h .stock in
@@ -321,15 +331,15 @@ settleRefusals time h =
 abbrev pub readRefusals : Whole → List Number
 readRefusals h = 1 for Rubbish h ∷ []
 
--- each of these on a book of so many stocks and places: before its own numbers, rubbish among them, 1 for the shape, and 3 for a stock number too
--- large
+-- one of these calls on a book of so many stocks and places: 1 for the shape and 3 for an unknown stock come before its own numbers, also before
+-- rubbish
 abbrev pub bookRefusals : (stocks times prices i : ℕ) → List Number → List Number
 bookRefusals stocks times prices i own =
     1 for (¬ IsShape stocks times prices) ∷
     3 for (stocks ≤ i) ∷
     own
 
--- setup: 1 for the shape and for a list of the wrong length, 2 for E or a stock's setup out of range
+-- setup: 1 for the shape and for a list of the wrong length, 2 for an E or a setup out of range
 abbrev pub setupRefusals : (stocks times prices end : ℕ) → List Setup → List Number
 setupRefusals stocks times prices end us =
     1 for (¬ IsShape stocks times prices or ¬ (length us ≡ stocks)) ∷
@@ -341,21 +351,45 @@ setupRefusals stocks times prices end us =
 -- zeros beside the number
 abbrev pub ShowsNothing : Answer → Type 0
 ShowsNothing a =
-    a .state ≡ 0 and a .reference ≡ 0 and a .bands .lower ≡ 0 and a .bands .upper ≡ 0
+    a .state ≡ 0 and a .reference ≡ 0 and a .lower ≡ 0 and a .upper ≡ 0
     and a .best .bid .price ≡ 0 and a .best .bid .flag ≡ 0 and a .best .offer .price ≡ 0 and a .best .offer .flag ≡ 0
 
 -- lower and upper are the bands in force, and 0 where there are none
-abbrev pub BandsShown : Stock → Limits → Type 0
-BandsShown s l = Bands s l or (¬ ((b : Limits) × Bands s b) and l .lower ≡ 0 and l .upper ≡ 0)
+abbrev pub BandsShown : Stock → Bands → Type 0
+BandsShown s l = HasBands s l or (¬ ((b : Bands) × HasBands s b) and l .lower ≡ 0 and l .upper ≡ 0)
 
 -- state, reference, lower, upper, best bid and flag, best offer and flag of a stock
 abbrev pub ShowsStock : Stock → Answer → Type 0
 ShowsStock s a =
-    a .state ≡ stateOf s and a .reference ≡ s .reference .price and BandsShown s (a .bands)
+    a .state ≡ stateOf s and a .reference ≡ s .reference .price and BandsShown s (record { lower = a .lower; upper = a .upper })
     and BidShown s (a .best .bid) and OfferShown s (a .best .offer)
+
+-- every number of an answer is in its range; bands can pass the largest price
+abbrev pub AnswerInRange : Answer → Type 0
+AnswerInRange a =
+    a .number ≤ 14 and a .state ≤ Closed and IsSide (a .reference) and a .lower ≤ 2_200_000_000 and a .upper ≤ 2_200_000_000
+    and IsSide (a .best .bid .price) and a .best .bid .flag ≤ 3 and IsSide (a .best .offer .price) and a .best .offer .flag ≤ 3
+
+-- every number of a notice is in its range: a letter's code or 0, and a time of a session
+abbrev pub NoticeInRange : Notice → Type 0
+NoticeInRange n = AnswerInRange (n .answer) and n .mark ≤ mark-z and n .time ≤ 23_700_000
+
+-- every number of what comes next is in its range
+abbrev pub UpcomingInRange : Upcoming → Type 0
+UpcomingInRange u = u .number ≤ 14 and u .mark ≤ mark-z and u .time ≤ 23_700_000
 
 -- a number with what the stock shows; after 1, 2 and 3 zeros
 abbrev pub Shows : ℕ → Stock → Answer → Type 0
 Shows n s a =
     let nothing = n ≡ 1 or n ≡ 2 or n ≡ 3 in
     a .number ≡ n and ((nothing and ShowsNothing a) or (¬ nothing and ShowsStock s a))
+
+-- no moment
+abbrev pub ShowsNone : Upcoming → Type 0
+ShowsNone u = u .mark ≡ 0 and u .time ≡ 0
+
+-- the earliest moment still to come, mark 0 and time 0 where there is none
+abbrev pub ShowsNext : Whole → Upcoming → Type 0
+ShowsNext h u =
+    (¬ (u .mark ≡ 0) and IsFirst (record { mark = u .mark; time = u .time }) (moments h))
+    or (NoneComes h and ShowsNone u)

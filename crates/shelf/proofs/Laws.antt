@@ -7,13 +7,12 @@ use native.Mathlib.Decide.{decLe}
 use native.Mathlib.Omega.{arith}
 use lib.ListN.{length, take, drop, length-append, length-drop}
 use lib.Seq.{take-at, drop-at}
-use Rattle.rules.specs.Numbers.{zeros}
+use Rattle.rules.specs.Numbers.{zeros, noNotice}
 use Rattle.rules.specs.declared.Answer.{Answer}
 use Rattle.rules.specs.declared.Notice.{Notice}
 use Rattle.rules.proofs.Answers.{nothing-shown}
 use Rattle.stock.specs.View.{telling, settling}
 use Rattle.stock.specs.declared.Record.{Record}
-use Rattle.calls.specs.Parts.{noNotice}
 use Rattle.book.specs.Lent.{Lent, lent, Given, calling, TellsIn, SettlesIn}
 use Rattle.book.specs.Setup.{setting, SetsUp}
 use Rattle.forms.proofs.Promises.{agree as one-value}

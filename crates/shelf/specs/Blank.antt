@@ -16,6 +16,6 @@ blankRecord = record {
   count = 0;
 }
 
--- the promise of `blank`: eight of them
+-- the promise of `blank`: eight such records
 abbrev pub blankRecords : List Record
 blankRecords = replicate 8 blankRecord

@@ -4,10 +4,9 @@ use Prim.Native.Nat.{ℕ, _<_, _≤_}
 use mathlib.Core.List.{List, _++_}
 use mathlib.Core.Path.{_≡_}
 use lib.ListN.{take, drop}
-use Rattle.rules.specs.Numbers.{zeros}
+use Rattle.rules.specs.Numbers.{zeros, noNotice}
 use Rattle.rules.specs.declared.Message.{Message}
 use Rattle.stock.specs.declared.Record.{Record}
-use Rattle.calls.specs.Parts.{noNotice}
 use Rattle.book.specs.Lent.{Lent, lent, TellsIn, SettlesIn}
 use Rattle.book.specs.Setup.{SetsUp}
 use Rattle.shelf.specs.declared.Told8.{Told8}
@@ -36,10 +35,10 @@ untold book = record { answer = zeros 1; book = book }
 abbrev pub unsettled : List Record → Settled8
 unsettled book = record { notice = noNotice 1; book = book }
 
--- what is given, and that every place is as it was
+-- the result is the given one, and every place is as it was
 abbrev pub Same : {A : Type 0} → A → A → List ℕ → List ℕ → List ℕ → List ℕ → Type 0
 Same r given ts ps ts′ ps′ = (r ≡ given) × ((ts′ ≡ ts) × (ps′ ≡ ps))
 
--- there are eight records, of which n are the book
+-- the first promise holds where n is at most eight, the second where it is over eight
 abbrev pub Within : ℕ → Type 0 → Type 0 → Type 0
 Within n Called Refused = (n ≤ 8 → Called) × (8 < n → Refused)

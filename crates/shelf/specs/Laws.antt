@@ -1,4 +1,4 @@
--- What the promises of shelf come to. Each field is a theorem: `laws` of proofs/Laws.antt proves the record.
+-- What the promises of shelf obey. Each field is a theorem: `laws` of proofs/Laws.antt proves the record.
 -- Assumes nothing.
 use Prim.Native.Nat.{ℕ, _≤_}
 use mathlib.Core.List.{List}
@@ -22,14 +22,14 @@ pub record Left8 (R : Type 0) : Type 0 where
   pub times : List ℕ
   pub prices : List ℕ
 
--- over eight: 1 with zeros, no moment, and the records as they were
+-- with n over eight the answer is 1 with zeros and no moment, and the records are as they were
 abbrev pub OverEight : Type 0
 OverEight = (book : List Record) → let t = untold book in let s = unsettled book in
     (t .answer .number ≡ 1 and ShowsNothing (t .answer) and t .book ≡ book)
-    × (s .notice .answer .number ≡ 1 and ShowsNothing (s .notice .answer) and s .notice .moment .mark ≡ 0 and s .notice .moment .time ≡ 0 and s .book ≡ book)
+    × (s .notice .answer .number ≡ 1 and ShowsNothing (s .notice .answer) and s .notice .mark ≡ 0 and s .notice .time ≡ 0 and s .book ≡ book)
 
 module _ (n : ℕ) (book : List Record) (ts ps : List ℕ) where
-  -- of the first n records what the book's call of the same arguments promises; those behind them are as they were
+  -- the first n records are as the book's call with the same arguments promises; the others are as they were
   abbrev pub OnFirst : (Lent → Lent → Type 0) → List Record → List ℕ → List ℕ → Type 0
   OnFirst Call book′ us qs = Call (lent (take n book) ts ps) (lent (take n book′) us qs) × (drop n book′ ≡ drop n book)
 

@@ -1,5 +1,5 @@
-// A book of at most eight stocks by value, of which the first n are the book: a program can keep it in a local.
-// No function has a `requires`: where n is over eight, the answer is number 1 and nothing changes.
+// A book of at most eight stocks by value, so that a program can keep it in a local variable; the first n records
+// are the book. No function has a `requires`: where n is over eight, the answer is number 1 and nothing changes.
 ghost use mathlib.Core.Path.{_≡_};
 ghost use Rattle.shelf.specs.Blank.{blankRecords};
 ghost use Rattle.shelf.specs.First.{Within, SetsUpFirst, TellsFirst, SettlesFirst, Same, untold, unsettled};

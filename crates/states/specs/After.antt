@@ -18,11 +18,11 @@ use Rattle.states.specs.declared.After.{After}
 abbrev pub Fits : Figures → Type 0
 Fits f = f .sum ≤ 4_294_967_295 * f .count
 
--- the figures, those of no trade where no window can have them
+-- the figures, or those of no trade where no window can have them
 unfoldable pub fit : Figures → Figures
 fit f = if ltb (4_294_967_295 * f .count) (f .sum) then record { count = 0; oldest = 0; sum = 0 } else f
 
--- each message's effect on the stock, the clock being at its time
+-- each message's effect on the stock, whose clock is already at its time
 unfoldable pub effectAt : Message → Figures → Stock → Stock
 effectAt (T time price) f s = tradeRules f s
 effectAt (Q time participant bid offer) f s = quoteRules f (with-quote participant bid offer s)

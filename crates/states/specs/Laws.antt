@@ -18,7 +18,7 @@ use Rattle.quotes.specs.declared.Kept.{Kept}
 use Rattle.states.specs.After.{Fits, fit, effectOf, afterOf}
 use Rattle.states.specs.declared.After.{After}
 
--- an accepted message leaves the stock that the rules leave, its window's figures being those that it leaves
+-- an accepted message leaves the stock that the rules leave, given the figures of the window that it leaves
 abbrev pub AsTheRules : Type 0
 AsTheRules = (m : Message) (h : Whole) → effectOf m (figuresOf (after m h .window)) (h .stock) ≡ after m h .stock
 
@@ -30,7 +30,7 @@ FitsAsItIs = (f : Figures) → Fits f → fit f ≡ f
 abbrev pub AfterIs : Type 0
 AfterIs = (s : Stock) → stockOf (afterOf s .kept) (afterOf s .quotes) ≡ s and afterOf s .shown ≡ shownOf s
 
--- to look at the quotes changes nothing that is shown, also where Limit is entered
+-- looking at the quotes changes nothing that is shown, even where Limit is entered
 abbrev pub LookShowsTheSame : Type 0
 LookShowsTheSame = (s : Stock) → shownOf (look s) ≡ shownOf s
 

@@ -26,7 +26,7 @@ use Rattle.states.specs.declared.rule.Turn.{Turn}
 abbrev pub withQuote : ℕ → ℕ → ℕ → Quotes → Quotes
 withQuote participant bid offer q = record { bids = set (q .bids) participant bid; offers = set (q .offers) participant offer }
 
--- Q sets a participant's, X leaves none
+-- the quotes after a message: Q sets a participant's, X leaves none
 unfoldable pub quotesTold : Quotes → Message → Quotes
 quotesTold q (T time price) = q
 quotesTold q (Q time participant bid offer) = withQuote participant bid offer q
@@ -35,7 +35,7 @@ quotesTold q (P time participant) = q
 quotesTold q (R time participant price) = q
 quotesTold q (X time participant price) = noQuotes
 
--- z and c leave none
+-- the quotes after a moment: z and c leave none
 unfoldable pub quotesAt : ℕ → Quotes → Quotes
 quotesAt mark q = if anyOf (eqb mark mark-z ∷ eqb mark mark-c ∷ []) then noQuotes else q
 
@@ -45,7 +45,7 @@ quotesAt mark q = if anyOf (eqb mark mark-z ∷ eqb mark mark-c ∷ []) then noQ
 unfoldable pub turnedTo : Turn → Quotes → Stock
 turnedTo t q = if t .looks then look (stockOf (t .kept) q) else stockOf (t .kept) q
 
--- the same, and Limit may end
+-- the stock after a turn that may also end Limit
 unfoldable pub leftTo : Turn → Figures → Quotes → Stock
 leftTo t f q = if t .looks then quoteRules f (stockOf (t .kept) q) else stockOf (t .kept) q
 
@@ -53,7 +53,7 @@ leftTo t f q = if t .looks then quoteRules f (stockOf (t .kept) q) else stockOf 
 abbrev pub leftPrice : Figures → ℕ → ℕ
 leftPrice f price = if noTrades f then price else meanIn f
 
--- the turn by a rule: it makes of the stock what the rule makes of it, whatever the quotes are, and looks at them in Trading alone
+-- the turn t does to the stock what the rule does, whatever the quotes are, and looks at the quotes in Trading alone
 pub record Turns (rule : Stock → Stock) (k : Kept) (t : Turn) : Type 0 where
   pub made : (q : Quotes) → turnedTo t q ≡ rule (stockOf k q)
   pub in-trading : t .looks ≡ true → t .kept .course .state ≡ Trading

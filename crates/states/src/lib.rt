@@ -1,5 +1,5 @@
-// What each message and each moment does to a stock, and what the stock then shows. Of the window it asks its
-// figures. No public function has a `requires`: figures whose mean has not 32 bits count as none.
+// What each message and each moment does to a stock, and what the stock then shows. Of the window it uses only the
+// figures. No public function has a `requires`: figures whose mean does not fit 32 bits count as those of no trade.
 ghost use mathlib.Core.Path.{_≡_};
 ghost use Rattle.rules.specs.Stock.{at-time};
 ghost use Rattle.rules.specs.Moments.{effect};

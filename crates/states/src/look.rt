@@ -1,4 +1,4 @@
-// The look at the quotes: Limit may end, and begin.
+// The look at the quotes, which can end Limit and can begin it.
 ghost use mathlib.Core.Path.{_≡_};
 ghost use mathlib.Core.Bool.{not};
 ghost use mathlib.Core.List.{[], _∷_};
@@ -16,6 +16,7 @@ use crate::rule::Turn;
 use crate::set;
 use quotes::Kept;
 use rules::Best;
+use rules::FLAG_LIMIT;
 use rules::Figures;
 use rules::LIMIT;
 use rules::Quotes;
@@ -25,7 +26,7 @@ use rules::TRADING;
 fn at_limit(b: Best) -> bool
     ensures { λ r. ⌜ r ≡ flagged 3 b ⌝ }
 {
-    (b.bid.flag == 3) | (b.offer.flag == 3)
+    (b.bid.flag == FLAG_LIMIT) | (b.offer.flag == FLAG_LIMIT)
 }
 
 // Whether the best bid is above the best offer.
@@ -42,7 +43,7 @@ fn is_over(state: u32, b: Best) -> bool
     (state == LIMIT) & !at_limit(b)
 }
 
-// Trading enters Limit: a side has flag 3, and the best bid is not above the best offer.
+// Enters Limit from Trading, if a best quote is at its limit band and the quotes do not cross.
 fn entered(b: Best, k: Kept) -> Kept
     ensures { λ r. ⌜ ((q : Quotes) → b ≡ bestOf (stockOf k q) → stockOf r q ≡ look (stockOf k q)) ⌝ }
 {
@@ -52,7 +53,7 @@ fn entered(b: Best, k: Kept) -> Kept
     k
 }
 
-// The stock after a turn. To enter Limit changes nothing that is shown.
+// The stock after a turn; entering Limit changes nothing that the stock shows.
 pub(crate) fn turned(t: Turn, q: Quotes) -> After
     ensures { λ r. ⌜ r ≡ afterOf (turnedTo t q) ⌝ }
 {

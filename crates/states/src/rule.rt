@@ -1,4 +1,5 @@
-// The state rules, up to the look at the quotes. Figures have been fitted: their mean has 32 bits.
+// The state rules, up to the look at the quotes. All figures here have been through `fitted`: their mean fits 32
+// bits.
 ghost use mathlib.Core.Path.{_≡_};
 ghost use mathlib.Core.Bool.{true, false};
 ghost use Rattle.rules.specs.Stock.{Trading, in-state, refer-to, meanIn};
@@ -12,8 +13,10 @@ ghost use Rattle.rules.specs.declared.Quotes.{Quotes};
 use crate::set;
 use quotes::Kept;
 use rules::CLOSED;
+use rules::FIRST_FIVE;
 use rules::Figures;
 use rules::LATE;
+use rules::LATE_BEFORE_END;
 use rules::MARK_C;
 use rules::MARK_F;
 use rules::MARK_P;
@@ -26,13 +29,13 @@ use rules::PAUSED;
 use rules::TRADING;
 use rules::WAITING;
 
-// What a step makes of a stock before its quotes are looked at, and whether they are.
+// The stock after a step, before the look at its quotes, and whether that look follows.
 pub struct Turn {
     pub kept: Kept,
     pub looks: bool,
 }
 
-// The figures, none where no window of 32-bit prices has them.
+// The figures, or those of no trade where no window of 32-bit prices can have them.
 pub(crate) fn fitted(f: Figures) -> Figures
     ensures { λ r. ⌜ (r ≡ fit f) × Fits r ⌝ }
 {
@@ -54,7 +57,7 @@ fn mean(f: Figures) -> u32
     band::mean(f.sum, f.count) as u32
 }
 
-// The quotes are not looked at.
+// A turn without a look at the quotes.
 fn still(k: Kept) -> Turn
     ensures { λ r. ⌜ r ≡ record { kept = k; looks = false } ⌝ }
 {
@@ -64,7 +67,7 @@ fn still(k: Kept) -> Turn
     }
 }
 
-// The quotes are to be looked at.
+// A turn with a look at the quotes.
 fn looking(k: Kept) -> Turn
     ensures { λ r. ⌜ r ≡ record { kept = k; looks = true } ⌝ }
 {
@@ -92,7 +95,7 @@ pub(crate) fn leave(f: Figures, k: Kept) -> Kept
     set::trading(mean(f), k)
 }
 
-// The Test.
+// The Test: a mean that is one percent away becomes the reference.
 fn test(f: Figures, k: Kept) -> Turn
     requires { ⌜ Fits f ⌝ }
     ensures { λ r. ⌜ Turns (test f) k r ⌝ }
@@ -116,26 +119,26 @@ fn test(f: Figures, k: Kept) -> Turn
     still(k)
 }
 
-// A pause starts now.
+// Starts a pause now.
 fn begin_pause(k: Kept) -> Turn
     ensures { λ r. ⌜ Turns begin-pause k r ⌝ }
 {
     let end = k.end as u64;
     let clock = k.course.clock as u64;
-    if end <= clock + 600_000 {
+    if end <= clock + LATE_BEFORE_END {
         return still(set::enter_pause(LATE, k));
     }
     still(set::enter_pause(PAUSED, k))
 }
 
-// A trade has joined the window.
+// The rule for a trade that has joined the window.
 fn trade(f: Figures, k: Kept) -> Turn
     requires { ⌜ Fits f ⌝ }
     ensures { λ r. ⌜ Turns (tradeRules f) k r ⌝ }
 {
     let c = k.course;
     if c.state == WAITING {
-        if 300_000 <= c.clock {
+        if FIRST_FIVE <= c.clock {
             return begin_trading(mean(f), k);
         }
         return still(k);
@@ -143,7 +146,7 @@ fn trade(f: Figures, k: Kept) -> Turn
     test(f, k)
 }
 
-// A message, the clock being at its time.
+// The rule of a message; the clock is already at its time.
 pub(crate) fn message(m: Message, f: Figures, k: Kept) -> Turn
     requires { ⌜ Fits f ⌝ }
     ensures { λ r. ⌜ ((q : Quotes) → leftTo r f (quotesTold q m) ≡ effectAt m f (stockOf k q)) ⌝ }
@@ -170,7 +173,7 @@ fn first_five(f: Figures, k: Kept) -> Turn
     begin_trading(mean(f), n)
 }
 
-// A moment, the clock being at its time; any other mark is h.
+// The rule of a moment; the clock is already at its time, and any other mark counts as h.
 pub(crate) fn moment(mark: u32, f: Figures, k: Kept) -> Turn
     requires { ⌜ Fits f ⌝ }
     ensures { λ r. ⌜ ((q : Quotes) → turnedTo r (quotesAt mark q) ≡ effect mark f (stockOf k q)) ⌝ }

@@ -1,4 +1,4 @@
-// A stock's parts with something set anew.
+// Setters for the parts of a stock.
 ghost use mathlib.Core.Path.{_≡_};
 ghost use Rattle.rules.specs.Stock.{Trading, with-course, with-reference, at-time, in-state, refer-to, hold-ended, not-early, enter-limit, enter-pause};
 ghost use Rattle.rules.specs.States.{noQuotes};
@@ -15,8 +15,8 @@ use rules::Quotes;
 use rules::Reference;
 use rules::TRADING;
 
-// Another course. A course that is copied and then changed is read back while the change is still being stored, and
-// the processor waits; so each is written out field by field.
+// Sets the course. Setters write a new course field by field: to copy a struct and read it back right after
+// changing it stalls the processor.
 fn with_course(course: Course, k: Kept) -> Kept
     ensures { λ r. ⌜ r ≡ keptOf (with-course course (bare k)) ⌝ }
 {
@@ -30,7 +30,7 @@ fn with_course(course: Course, k: Kept) -> Kept
     }
 }
 
-// The clock is at `time`.
+// Sets the clock.
 pub(crate) fn at_time(time: u32, k: Kept) -> Kept
     ensures { λ r. ⌜ r ≡ keptOf (at-time time (bare k)) ⌝ }
 {
@@ -45,7 +45,7 @@ pub(crate) fn at_time(time: u32, k: Kept) -> Kept
     with_course(course, k)
 }
 
-// Another state.
+// Sets the state.
 pub(crate) fn in_state(state: u32, k: Kept) -> Kept
     ensures { λ r. ⌜ r ≡ keptOf (in-state state (bare k)) ⌝ }
 {
@@ -60,7 +60,7 @@ pub(crate) fn in_state(state: u32, k: Kept) -> Kept
     with_course(course, k)
 }
 
-// Limit, entered now.
+// Enters Limit now.
 pub(crate) fn enter_limit(k: Kept) -> Kept
     ensures { λ r. ⌜ r ≡ keptOf (enter-limit (bare k)) ⌝ }
 {
@@ -75,7 +75,7 @@ pub(crate) fn enter_limit(k: Kept) -> Kept
     with_course(course, k)
 }
 
-// A pause of either kind, started now.
+// Starts a pause of either kind now.
 pub(crate) fn enter_pause(state: u32, k: Kept) -> Kept
     ensures { λ r. ⌜ r ≡ keptOf (enter-pause state (bare k)) ⌝ }
 {
@@ -90,7 +90,7 @@ pub(crate) fn enter_pause(state: u32, k: Kept) -> Kept
     with_course(course, k)
 }
 
-// The moment f has happened.
+// Marks the moment f as done.
 pub(crate) fn not_early(k: Kept) -> Kept
     ensures { λ r. ⌜ r ≡ keptOf (not-early (bare k)) ⌝ }
 {
@@ -105,7 +105,7 @@ pub(crate) fn not_early(k: Kept) -> Kept
     with_course(course, k)
 }
 
-// Another reference.
+// Sets the reference.
 fn with_reference(reference: Reference, k: Kept) -> Kept
     ensures { λ r. ⌜ r ≡ keptOf (with-reference reference (bare k)) ⌝ }
 {
@@ -119,7 +119,7 @@ fn with_reference(reference: Reference, k: Kept) -> Kept
     }
 }
 
-// The reference `price`, started now, with a new hold.
+// Starts the reference `price` now, with a new hold.
 pub(crate) fn refer_to(price: u32, k: Kept) -> Kept
     ensures { λ r. ⌜ r ≡ keptOf (refer-to price (bare k)) ⌝ }
 {
@@ -131,14 +131,14 @@ pub(crate) fn refer_to(price: u32, k: Kept) -> Kept
     with_reference(reference, k)
 }
 
-// Trading, with the reference `price`, started now.
+// Enters Trading with the reference `price`, which starts now.
 pub(crate) fn trading(price: u32, k: Kept) -> Kept
     ensures { λ r. ⌜ r ≡ keptOf (in-state Trading (refer-to price (bare k))) ⌝ }
 {
     in_state(TRADING, refer_to(price, k))
 }
 
-// The moment h has happened.
+// Marks the moment h as done.
 pub(crate) fn hold_ended(k: Kept) -> Kept
     ensures { λ r. ⌜ r ≡ keptOf (hold-ended (bare k)) ⌝ }
 {
@@ -151,7 +151,7 @@ pub(crate) fn hold_ended(k: Kept) -> Kept
     with_reference(reference, k)
 }
 
-// One participant's bid and offer; there is no participant over 15.
+// Sets one participant's bid and offer; a participant over 15 changes nothing.
 fn with_quote(participant: u32, bid: u32, offer: u32, q: Quotes) -> Quotes
     ensures { λ r. ⌜ r ≡ withQuote participant bid offer q ⌝ }
 {
@@ -165,7 +165,7 @@ fn with_quote(participant: u32, bid: u32, offer: u32, q: Quotes) -> Quotes
     n
 }
 
-// No quote.
+// Quotes with every side absent.
 fn no_quotes() -> Quotes
     ensures { λ r. ⌜ r ≡ noQuotes ⌝ }
 {

@@ -1,6 +1,6 @@
 -- What a call gives and leaves, from what its parts promise.
 -- Assumes nothing.
-use Prim.Native.Nat.{ℕ, _≤_, max}
+use Prim.Native.Nat.{ℕ, _≤_, _<_, max}
 use mathlib.Core.Bool.{Bool, true, false, not, true≢false}
 use mathlib.Core.List.{List, [], _∷_, map}
 use mathlib.Core.Path.{_≡_, refl, sym, ap, _∙_}
@@ -16,14 +16,20 @@ use Rattle.forms.proofs.Checks.{beyond}
 use Rattle.rules.specs.Stock.{Trade, Whole, clockOf, figuresOf, staying}
 use Rattle.rules.specs.Moments.{no-moment, dueBy, windowAfter, come, nextOf, fire}
 use Rattle.rules.specs.Messages.{does, after}
-use Rattle.rules.specs.Numbers.{badTrades, rubbish, ownChecks, tells, settles, zeros, answer, afterTelling, notice, tellAnswer, settleAnswer, readChecks, reads, readAnswer}
+use Rattle.rules.specs.Numbers.{badTrades, rubbish, ownChecks, tells, settles, zeros, beside, answer, afterTelling, notice, tellAnswer, settleAnswer, readChecks, reads, readAnswer, noneComing, nextAnswer}
+use Rattle.rules.specs.Machine.{message, moment}
 use Rattle.rules.specs.declared.Answer.{Answer}
 use Rattle.rules.specs.declared.Message.{Message}
 use Rattle.rules.specs.declared.Message.the-variants.{Trade as T, Quote as Q, Opening as O, Pause as P, Reopening as R, Closing as X}
 use Rattle.rules.specs.declared.Moment.{Moment}
+use Rattle.rules.specs.declared.Notice.{Notice}
 use Rattle.rules.specs.declared.Stock.{Stock}
+use Rattle.rules.proofs.Fits.{bands-fit}
+use Rattle.rules.proofs.Numbers.{rubbish-is}
+use Rattle.rules.specs.declared.Upcoming.{Upcoming}
+use Rattle.rules.proofs.Next.{next-fits}
 use Rattle.rules.proofs.Passed.{told, settled}
-use Rattle.rules.proofs.Sound.{fewer}
+use Rattle.rules.proofs.Sound.{fewer, price-found, price-after}
 use Rattle.quotes.specs.Parts.{stockOf, keptOf, bare}
 use Rattle.quotes.specs.declared.Kept.{Kept}
 use Rattle.judge.proofs.Laws as judge
@@ -31,9 +37,9 @@ use Rattle.states.specs.After.{afterOf}
 use Rattle.states.specs.declared.After.{After}
 use Rattle.window.specs.Places.{trades, whole, laid, Written}
 use Rattle.window.proofs.Window.{length-trades, placed-fits}
-use Rattle.stock.proofs.Sights.{message-number-is, settle-number-is, sound-where-done}
-use Rattle.stock.specs.View.{Bytes, bytes, view, lay, shaped, Outcome, telling, settling, Tells, Settles, reading}
-use Rattle.stock.specs.Steps.{recordOf, Seen, messageNumber, settleNumber, answerBy, Held, holding, Makes}
+use Rattle.stock.proofs.Sights.{message-number-is, settle-number-is, sound-unless-1, sound-where-done}
+use Rattle.stock.specs.View.{Bytes, bytes, view, lay, shaped, Outcome, telling, settling, Tells, Settles, reading, coming}
+use Rattle.stock.specs.Steps.{recordOf, Seen, messageNumber, settleNumber, Fits, answerBy, Held, holding, Makes}
 use Rattle.stock.specs.declared.Record.{Record}
 use Rattle.stock.specs.declared.sight.Sight.{Sight}
 use Rattle.stock.specs.declared.steps.Step.{Step}
@@ -136,6 +142,10 @@ answer-is : (step : After) (s : Stock) (a : Answer) → step ≡ afterOf s → a
 unfolding answer anyOf if_then_else_
 answer-is step s a e f = rw (f, e)
 
+-- of a reference in range the bands that it shows fit
+shown-fits : (step : After) (s : Stock) → step ≡ afterOf s → s .reference .price ≤ 999_999_999 → Fits (step .shown)
+shown-fits step s e l = let k = bands-fit s l in rw e (omega arith, omega arith)
+
 -- a call takes its stock apart
 module _ (r : Record) (ts ps : List ℕ) (p : Kept) (ep : p ≡ keptOf (r .stock)) where
   abbrev b : Bytes
@@ -154,6 +164,10 @@ module _ (r : Record) (ts ps : List ℕ) (p : Kept) (ep : p ≡ keptOf (r .stock
     abbrev h : Whole
     h = holding (stockOf p (b .kept .stock .quotes)) (g .figures) (b .times) (b .prices)
 
+    -- the reference of a stock that is sound is in range
+    pub in-range : g .sound ≡ true → p .reference .price ≤ 999_999_999
+    in-range s = rw ep (price-found (view b) (rubbish-is (view b) .fails (no-rubbish b g k s)))
+
     -- the window that the figures count is the one that is held
     same : (s : g .sound ≡ true) → h ≡ view b
     same s = rw (ep, same-count b g k s)
@@ -169,6 +183,19 @@ module _ (r : Record) (ts ps : List ℕ) (p : Kept) (ep : p ≡ keptOf (r .stock
       pub message-held : n ≡ 0 → Held (g .figures) (b .times) (b .prices)
       message-held z = held b g k (told-sound z)
 
+      told-zero : n ≡ 0 → tells m (view b) ≡ 0
+      told-zero z = sym (own-number ∙ message-number-is b g k m ∙ simp (in-shape b g k (told-sound z), if-true)) ∙ z
+
+      -- the stock that an accepted message leaves is in range, and so is one that is shown beside a refusal but 1
+      pub told-fits : (step : Step) → n ≡ 0 → Makes (after m) h step → Fits (step .after .shown)
+      told-fits step z makes =
+          let made : Makes (after m) (view b) step = rw (same (told-sound z)) at makes in
+          shown-fits _ _ (made .after) (price-after (view b) (message m) (told-zero z, tt))
+
+      pub refused-in-range : ¬ (n ≡ 1) → p .reference .price ≤ 999_999_999
+      unfolding messageNumber
+      refused-in-range z = in-range (sound-unless-1 b g k _ (λ o. z (e ∙ o)))
+
       pub told-done : (step : Step) (us qs : List ℕ) (a : Answer) (next : Record) → n ≡ 0 → Makes (after m) h step
           → Written (step .change) (b .kept .count) (b .times) (b .prices) us qs → a ≡ answerBy 0 (step .after .kept) (step .after .shown)
           → next ≡ recordOf (step .after .kept) (step .after .quotes) (step .count) → Tells m b (record { answer = a; next = next }) us qs
@@ -176,8 +203,7 @@ module _ (r : Record) (ts ps : List ℕ) (p : Kept) (ep : p ≡ keptOf (r .stock
       told-done step us qs a next z makes writes ea en =
           let s = told-sound z in
           let in-shape = in-shape b g k s in
-          let is : n ≡ tells m (view b) = own-number ∙ message-number-is b g k m ∙ simp (in-shape, if-true) in
-          let done : tells m (view b) ≡ 0 = sym is ∙ z in
+          let done = told-zero z in
           let made : Makes (after m) (view b) step = rw (same s) at makes in
           let out = laid-out b g k s (after m) step next us qs (room m (view b) done) made en writes in
           let all : telling m b ≡ record { answer = answer 0 (after m (view b) .stock); bytes = lay (after m (view b)) b } =
@@ -222,12 +248,24 @@ module _ (r : Record) (ts ps : List ℕ) (p : Kept) (ep : p ≡ keptOf (r .stock
           let due = settled time (view b) (settled-zero z) .due in
           (held b g k (settled-sound z), rw (k .earliest (settled-sound z)) (leb-true _ _ (all-head _ _ (all-tail _ _ due))))
 
-      pub settled-done : (step : Step) (us qs : List ℕ) (a : Answer) (next : Record) → n ≡ 0 → Makes (come (g .earliest)) h step
+      -- the stock that a moment leaves is in range, and so is one that is shown beside a refusal but 1
+      pub settled-fits : (step : Step) → n ≡ 0 → Makes (come (g .earliest)) h step → Fits (step .after .shown)
+      unfolding fire
+      settled-fits step z makes =
+          let s = settled-sound z in
+          let made : Makes (come (nextOf (view b))) (view b) step = rw (same s, k .earliest s) at makes in
+          shown-fits _ _ (made .after) (price-after (view b) (moment (notice (view b))) ((time, settled-zero z), refl, tt))
+
+      pub unsettled-in-range : ¬ (n ≡ 1) → p .reference .price ≤ 999_999_999
+      unfolding settleNumber
+      unsettled-in-range z = in-range (sound-unless-1 b g k _ (λ o. z (e ∙ o)))
+
+      pub settled-done : (step : Step) (us qs : List ℕ) (a : Answer) (own : ℕ) (next : Record) → n ≡ 0 → own ≡ g .earliest .time → Makes (come (g .earliest)) h step
           → Written (step .change) (b .kept .count) (b .times) (b .prices) us qs → a ≡ answerBy 0 (step .after .kept) (step .after .shown)
           → next ≡ recordOf (step .after .kept) (step .after .quotes) (step .count)
-          → Settles time b (record { notice = record { answer = a; moment = g .earliest }; next = next }) us qs
+          → Settles time b (record { notice = record { answer = a; mark = g .earliest .mark; time = own }; next = next }) us qs
       unfolding settling settleAnswer notice fire come
-      settled-done step us qs a next z makes writes ea en =
+      settled-done step us qs a own next z eo makes writes ea en =
           let s = settled-sound z in
           let in-shape = in-shape b g k s in
           let done = settled-zero z in
@@ -235,40 +273,54 @@ module _ (r : Record) (ts ps : List ℕ) (p : Kept) (ep : p ≡ keptOf (r .stock
           let out = laid-out b g k s (come (nextOf (view b))) step next us qs (fired-few (view b) (no-rubbish b g k s)) made en writes in
           let all : settling time b ≡ record { answer = notice (view b); bytes = lay (fire (view b)) b } =
           simp (in-shape, done, eq-eqb 0 0 refl, if-true) in
-          outcome-is _ _ _ _ (simp (answer-is _ _ a (made .after) ea, k .earliest s)) out ∙ sym all
+          outcome-is _ _ _ _ (simp (answer-is _ _ a (made .after) ea, eo, k .earliest s)) out ∙ sym all
 
-      pub settled-refused : (a : Answer) → (n ≡ 0 → ⊥) → a ≡ answer n (stockOf p (b .kept .stock .quotes))
-          → Settles time b (record { notice = record { answer = a; moment = no-moment }; next = b .kept }) (b .times) (b .prices)
+      pub settled-refused : (a : Answer) (given : Notice) → (n ≡ 0 → ⊥) → a ≡ answer n (stockOf p (b .kept .stock .quotes)) → given ≡ beside no-moment a
+          → Settles time b (record { notice = given; next = b .kept }) (b .times) (b .prices)
       unfolding settling settleAnswer
-      settled-refused a z ea = go (shaped b) refl
+      settled-refused a given z ea eg = go (shaped b) refl
         where
           is : n ≡ (if shaped b then settles time (view b) else 1)
           is = own-settling ∙ settle-number-is b g k time
 
           go : (x : Bool) → shaped b ≡ x
-              → Settles time b (record { notice = record { answer = a; moment = no-moment }; next = b .kept }) (b .times) (b .prices)
+              → Settles time b (record { notice = given; next = b .kept }) (b .times) (b .prices)
           go true q =
               let n-is : settles time (view b) ≡ n = sym (is ∙ simp (q, if-true)) in
-              simp (q, if-true, n-is, ne-eqb n 0 z, if-false, ea, ep)
+              simp (q, if-true, n-is, ne-eqb n 0 z, if-false, eg, ea, ep)
           go false q =
               let n-is : n ≡ 1 = is ∙ simp (q, if-false) in
-              simp (q, if-false, ea, n-is, one-zeros)
+              simp (q, if-false, eg, ea, n-is, one-zeros)
 
     -- -------------------------------------------------------------- a reading
 
     pub read-sound : (a : Answer) → g .sound ≡ true → a ≡ answer 0 (stockOf p (b .kept .stock .quotes)) → a ≡ reading b
     unfolding reading readAnswer reads readChecks first
-    read-sound a s ea =
-        let t = tests b g k s in
-        let shape : shaped b ≡ true = all-head _ _ t in
-        let clean : rubbish (view b) ≡ false = not-true _ (all-head _ _ (all-tail _ _ t)) in
-        ea ∙ simp (ep, shape, clean, if-true, if-false)
+    read-sound a s ea = ea ∙ simp (ep, in-shape b g k s, no-rubbish b g k s, if-true, if-false)
 
-    pub read-unsound : (a : Answer) → g .sound ≡ false → a ≡ answer 1 (stockOf p (b .kept .stock .quotes)) → a ≡ reading b
-    unfolding reading readAnswer reads readChecks first
-    read-unsound a s ea = go (shaped b) refl (rubbish (view b)) refl
+    -- where it is not sound, the parts are of another length or the stock is rubbish
+    unsound : {A : Type 0} (x y : A) → g .sound ≡ false → (shaped b ≡ false → x ≡ y) → (shaped b ≡ true → rubbish (view b) ≡ true → x ≡ y) → x ≡ y
+    unsound x y s odd bad = go (shaped b) refl (rubbish (view b)) refl
       where
-        go : (x : Bool) → shaped b ≡ x → (y : Bool) → rubbish (view b) ≡ y → a ≡ reading b
-        go false e y q = ea ∙ simp (one-zeros, e, if-false)
-        go true e true q = ea ∙ simp (ep, e, q, if-true)
+        go : (c : Bool) → shaped b ≡ c → (d : Bool) → rubbish (view b) ≡ d → x ≡ y
+        go false e d q = odd e
+        go true e true q = bad e q
         go true e false q = absurd (true≢false (sym (all-yes _ _ e (all-yes _ _ (ap not q) all-empty)) ∙ sym (k .sound) ∙ s))
+
+    pub read-unsound : (a : Answer) → g .sound ≡ false → a ≡ zeros 1 → a ≡ reading b
+    unfolding reading readAnswer reads readChecks first
+    read-unsound a s ea = unsound a (reading b) s (λ e. ea ∙ simp (e, if-false)) (λ e q. ea ∙ simp (one-zeros, e, q, if-true))
+
+    -- -------------------------------------------------------------- what comes next
+
+    -- its time is a number of 32 bits
+    pub time-fits : g .sound ≡ true → g .earliest .time < 4_294_967_296
+    time-fits s = rw (k .earliest s) (next-fits (view b) (no-rubbish b g k s))
+
+    pub next-sound : g .sound ≡ true → _≡_ {A = Upcoming} (record { number = 0; mark = g .earliest .mark; time = g .earliest .time }) (coming b)
+    unfolding coming nextAnswer reads readChecks first
+    next-sound s = simp (in-shape b g k s, no-rubbish b g k s, k .earliest s, eq-eqb 0 0 refl, if-true, if-false)
+
+    pub next-unsound : (u : Upcoming) → g .sound ≡ false → u ≡ noneComing 1 → u ≡ coming b
+    unfolding coming nextAnswer reads readChecks first
+    next-unsound u s eu = unsound u (coming b) s (λ e. eu ∙ simp (e, if-false)) (λ e q. eu ∙ simp (e, q, if-true, ne-eqb 1 0 (λ z. omega arith), if-false))

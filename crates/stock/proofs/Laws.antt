@@ -16,17 +16,18 @@ use Rattle.rules.specs.Stock.{Trade, Whole, stateOf}
 use Rattle.rules.specs.Quotes.{bandsIn, bestOf}
 use Rattle.rules.specs.Moments.{no-moment, fire}
 use Rattle.rules.specs.Messages.{after}
-use Rattle.rules.specs.Numbers.{rubbish, zeros, answer, tells, settles, notice, afterTelling, afterSettling, tellAnswer, settleAnswer}
+use Rattle.rules.specs.Numbers.{rubbish, zeros, noNotice, noneComing, beside, answer, tells, settles, notice, afterTelling, afterSettling, tellAnswer, settleAnswer}
 use Rattle.rules.specs.declared.Answer.{Answer}
 use Rattle.rules.specs.declared.Notice.{Notice}
 use Rattle.rules.specs.declared.Stock.{Stock}
+use Rattle.rules.proofs.Answers.{nothing-shown}
 use Rattle.rules.proofs.Passed.{told, settled}
 use Rattle.window.specs.Places.{laid}
 use Rattle.window.proofs.Laws as window
 use Rattle.window.proofs.Window.{length-trades}
 use Rattle.stock.proofs.Calls.{held-few, room, fired-few}
-use Rattle.stock.specs.View.{Bytes, bytes, view, lay, shaped, Outcome, telling, settling, reading}
-use Rattle.stock.specs.Laws.{Left, BytesAre, ShapedIs, ViewIs, ReadBack, ToldByTheRules, SettledByTheRules, ReadByTheRules, ToldOne, SettledOne, ToldRefused, SettledRefused, ToldInShape, SettledInShape, Unwritten, ToldUnused, SettledUnused, Laws}
+use Rattle.stock.specs.View.{Bytes, bytes, view, lay, shaped, Outcome, telling, settling, reading, coming}
+use Rattle.stock.specs.Laws.{Left, NoNoticeIs, BytesAre, ShapedIs, ViewIs, ReadBack, ToldByTheRules, SettledByTheRules, ReadByTheRules, NextByTheRules, ToldOne, SettledOne, ToldRefused, SettledRefused, ToldInShape, SettledInShape, Unwritten, ToldUnused, SettledUnused, Laws}
 
 bytes-are : BytesAre
 bytes-are kept times prices = (refl, (refl, refl))
@@ -125,15 +126,18 @@ module _ {A : Type 0} (b : Bytes) (h : Whole) (n : ℕ) (given one : A) (o : Out
 pub answer-number : (n : ℕ) (s : Stock) → answer n s .number ≡ n
 unfolding answer
 answer-number n s = if-arms (λ a. a .number ≡ n) _ {x = zeros n}
-    {y = record { number = n; state = stateOf s; reference = s .reference .price; bands = bandsIn s; best = bestOf s }} (λ _. refl) (λ _. refl)
+    {y = record { number = n; state = stateOf s; reference = s .reference .price; lower = bandsIn s .lower; upper = bandsIn s .upper; best = bestOf s }} (λ _. refl) (λ _. refl)
 
 pub notice-number : (time : ℕ) (h : Whole) → settleAnswer time h .answer .number ≡ settles time h
 unfolding settleAnswer notice
 notice-number time h = if-arms (λ a. a .answer .number ≡ settles time h) _ {x = notice h}
-    {y = record { answer = answer (settles time h) (h .stock); moment = no-moment }}
+    {y = beside no-moment (answer (settles time h) (h .stock))}
     (λ z. answer-number 0 (fire h .stock) ∙ sym (eqb-true _ _ z)) (λ _. answer-number _ _)
 
 -- ------------------------------------------------------------------ the laws
+
+no-notice-is : NoNoticeIs
+no-notice-is number = (refl, (nothing-shown number (zeros number) refl, (refl, refl)))
 
 told-by-the-rules : ToldByTheRules
 unfolding telling afterTelling
@@ -141,7 +145,7 @@ told-by-the-rules m b r times prices e = by-the-rules b (after m (view b)) (tell
 
 settled-by-the-rules : SettledByTheRules
 unfolding settling afterSettling
-settled-by-the-rules time b r times prices e = by-the-rules b (fire (view b)) (settles time (view b)) _ (record { answer = zeros 1; moment = no-moment }) _ e
+settled-by-the-rules time b r times prices e = by-the-rules b (fire (view b)) (settles time (view b)) _ (noNotice 1) _ e
 
 told-unused : ToldUnused
 unfolding telling
@@ -149,7 +153,7 @@ told-unused m b r times prices e = unwritten b (after m (view b)) (tells m (view
 
 settled-unused : SettledUnused
 unfolding settling
-settled-unused time b r times prices e = unwritten b (fire (view b)) (settles time (view b)) (settleAnswer time (view b)) (record { answer = zeros 1; moment = no-moment }) _ e
+settled-unused time b r times prices e = unwritten b (fire (view b)) (settles time (view b)) (settleAnswer time (view b)) (noNotice 1) _ e
 
 told-one : ToldOne
 unfolding telling
@@ -167,7 +171,7 @@ told-refused m b r times prices e = unchanged b (after m (view b)) (tells m (vie
 settled-refused : SettledRefused
 unfolding settling
 settled-refused time b r times prices e =
-    unchanged b (fire (view b)) (settles time (view b)) _ (record { answer = zeros 1; moment = no-moment }) _ e (λ a. a .answer .number)
+    unchanged b (fire (view b)) (settles time (view b)) _ (noNotice 1) _ e (λ a. a .answer .number)
     (notice-number time (view b))
 
 -- what is held where a call is done
@@ -182,12 +186,16 @@ told-in-shape m b r times prices e = same-shape b (after m (view b)) (tells m (v
 settled-in-shape : SettledInShape
 unfolding settling
 settled-in-shape time b r times prices e =
-    same-shape b (fire (view b)) (settles time (view b)) (settleAnswer time (view b)) (record { answer = zeros 1; moment = no-moment }) _ e
+    same-shape b (fire (view b)) (settles time (view b)) (settleAnswer time (view b)) (noNotice 1) _ e
     (λ z. let sound = settled time (view b) z .sound in (held b sound, fired-few (view b) sound))
 
 read-by-the-rules : ReadByTheRules
 unfolding reading
 read-by-the-rules b = (if-true _ _ _, if-false _ _ _)
+
+next-by-the-rules : NextByTheRules
+unfolding coming
+next-by-the-rules b = (if-true _ _ _, if-false _ _ _)
 
 pub laws : Laws
 laws = record {
@@ -200,15 +208,21 @@ laws = record {
   told-one = told-one;
   settled-one = settled-one;
   read-by-the-rules = read-by-the-rules;
+  next-by-the-rules = next-by-the-rules;
   told-refused = told-refused;
   settled-refused = settled-refused;
   told-in-shape = told-in-shape;
   settled-in-shape = settled-in-shape;
   told-unused = told-unused;
   settled-unused = settled-unused;
+  no-notice-is = no-notice-is;
+  zeros-determined = λ number. agree (zeros number);
+  zero-notice-determined = λ number. agree (noNotice number);
+  none-coming-determined = λ number. agree (noneComing number);
   tell-determined = λ m b x y e f. ap (λ (o : Outcome Answer). left (record { answer = o .answer; next = o .bytes .kept }) o) (e ∙ sym f);
   settle-determined = λ time b x y e f. ap (λ (o : Outcome Notice). left (record { notice = o .answer; next = o .bytes .kept }) o) (e ∙ sym f);
   read-determined = λ b. agree (reading b);
+  next-determined = λ b. agree (coming b);
 }
   where
     left : {A R : Type 0} → R → Outcome A → Left R

@@ -122,10 +122,14 @@ module _ (b : Bytes) (g : Sight) (k : Seen b g) where
   unfolding settleNumber settles settleChecks first
   settle-number-is time = seen-number _ _ (λ q. simp (k .earliest q))
 
-  -- where 0 is given the stock is sound
-  pub sound-where-done : (n : ℕ) → (if g .sound then n else 1) ≡ 0 → g .sound ≡ true
-  sound-where-done n e = go (g .sound) refl
+  -- where another number than 1 is given the stock is sound
+  pub sound-unless-1 : (n : ℕ) → ¬ ((if g .sound then n else 1) ≡ 1) → g .sound ≡ true
+  sound-unless-1 n e = go (g .sound) refl
     where
       go : (s : Bool) → g .sound ≡ s → g .sound ≡ true
       go true q = q
-      go false q = let z : _≡_ {A = ℕ} 1 0 = simp (q, if-false) at e in absurd (omega arith)
+      go false q = absurd (e (simp (q, if-false)))
+
+  -- so it is where 0 is given
+  pub sound-where-done : (n : ℕ) → (if g .sound then n else 1) ≡ 0 → g .sound ≡ true
+  sound-where-done n e = sound-unless-1 n (λ o. omega arith)

@@ -1,4 +1,4 @@
--- What the promises of a record's methods come to. Each field is a theorem: `laws` of proofs/Laws.antt proves the record.
+-- What the promises of a record's methods obey. Each field is a theorem: `laws` of proofs/Laws.antt proves the record.
 -- Assumes nothing.
 use Prim.Native.Nat.{ℕ, _≤_, _<_}
 use mathlib.Core.Bool.{true, false}
@@ -9,11 +9,13 @@ use lib.ListN.{length, getD}
 use Rattle.forms.specs.Promises.{Determines}
 use Rattle.forms.specs.Words.{_and_}
 use Rattle.rules.specs.Stock.{Trade, Whole}
-use Rattle.rules.specs.Moments.{no-moment}
-use Rattle.rules.specs.Numbers.{zeros, afterTelling, afterSettling, tellAnswer, settleAnswer, readAnswer}
+use Rattle.rules.specs.Numbers.{zeros, noNotice, afterTelling, afterSettling, tellAnswer, settleAnswer, readAnswer, noneComing, nextAnswer}
+use Rattle.rules.specs.Words.{ShowsNothing}
 use Rattle.rules.specs.declared.Answer.{Answer}
 use Rattle.rules.specs.declared.Message.{Message}
-use Rattle.stock.specs.View.{Bytes, bytes, view, lay, shaped, Tells, Settles, reading}
+use Rattle.rules.specs.declared.Notice.{Notice}
+use Rattle.rules.specs.declared.Upcoming.{Upcoming}
+use Rattle.stock.specs.View.{Bytes, bytes, view, lay, shaped, Tells, Settles, reading, coming}
 use Rattle.stock.specs.declared.Record.{Record}
 use Rattle.stock.specs.declared.Told.{Told}
 use Rattle.stock.specs.declared.Settled.{Settled}
@@ -24,6 +26,11 @@ pub record Left (R : Type 0) : Type 0 where
   pub times : List ℕ
   pub prices : List ℕ
 
+-- a number with zeros beside it, and no moment
+abbrev pub NoNoticeIs : Type 0
+NoNoticeIs = (number : ℕ) → let n = noNotice number in
+    n .answer .number ≡ number and ShowsNothing (n .answer) and n .mark ≡ 0 and n .time ≡ 0
+
 -- bytes put together: each part is what was given for it
 abbrev pub BytesAre : Type 0
 BytesAre = (kept : Record) (times prices : List ℕ) → let b = bytes kept times prices in b .kept ≡ kept and b .times ≡ times and b .prices ≡ prices
@@ -32,16 +39,16 @@ BytesAre = (kept : Record) (times prices : List ℕ) → let b = bytes kept time
 abbrev pub ShapedIs : Type 0
 ShapedIs = (b : Bytes) → (shaped b ≡ true) ↔ (length (b .times) ≡ 512 and length (b .prices) ≡ 512)
 
--- what is read: the record's stock, with as many trades as it counts, each in its place of both parts
+-- `view` reads the record's stock, with as many trades as it counts, each from its place of both parts
 abbrev pub ViewIs : Type 0
 ViewIs = (b : Bytes) → (view b .stock ≡ b .kept .stock) × (length (view b .window) ≡ b .kept .count)
     × ((j : ℕ) (d : Trade) → j < b .kept .count → getD (view b .window) j d ≡ record { at = getD (b .times) j 0; price = getD (b .prices) j 0 })
 
--- what is laid is read again, whatever stood there
+-- `view` reads back what `lay` wrote, whatever the places held before
 abbrev pub ReadBack : Type 0
 ReadBack = (h : Whole) (b : Bytes) → view (lay h b) ≡ h
 
--- of parts of 512 places: the rules' answer, and bytes that mean what the rules make of what the bytes meant
+-- with parts of 512 places the answer is the rules', and the new bytes mean what the rules make of the stock that the old bytes meant
 abbrev pub ToldByTheRules : Type 0
 ToldByTheRules = (m : Message) (b : Bytes) (r : Told) (times prices : List ℕ) → Tells m b r times prices → shaped b ≡ true
     → (r .answer ≡ tellAnswer m (view b)) × (view (bytes (r .next) times prices) ≡ afterTelling m (view b))
@@ -50,19 +57,23 @@ abbrev pub SettledByTheRules : Type 0
 SettledByTheRules = (time : ℕ) (b : Bytes) (r : Settled) (times prices : List ℕ) → Settles time b r times prices → shaped b ≡ true
     → (r .notice ≡ settleAnswer time (view b)) × (view (bytes (r .next) times prices) ≡ afterSettling time (view b))
 
--- of other parts: 1 with zeros beside it
+-- with other parts the answer is 1 with zeros
 abbrev pub ToldOne : Type 0
 ToldOne = (m : Message) (b : Bytes) (r : Told) (times prices : List ℕ) → Tells m b r times prices → shaped b ≡ false → r .answer ≡ zeros 1
 
 abbrev pub SettledOne : Type 0
 SettledOne = (time : ℕ) (b : Bytes) (r : Settled) (times prices : List ℕ) → Settles time b r times prices → shaped b ≡ false
-    → r .notice ≡ record { answer = zeros 1; moment = no-moment }
+    → r .notice ≡ noNotice 1
 
--- what reading answers, of each
+-- reading gives the rules' answer with parts of 512 places, and 1 with zeros with other parts
 abbrev pub ReadByTheRules : Type 0
 ReadByTheRules = (b : Bytes) → (shaped b ≡ true → reading b ≡ readAnswer (view b)) × (shaped b ≡ false → reading b ≡ zeros 1)
 
--- every number but 0 leaves every byte as it stood
+-- asking what comes next gives the rules' answer with parts of 512 places, and 1 with no moment with other parts
+abbrev pub NextByTheRules : Type 0
+NextByTheRules = (b : Bytes) → (shaped b ≡ true → coming b ≡ nextAnswer (view b)) × (shaped b ≡ false → coming b ≡ noneComing 1)
+
+-- a call that is not answered 0 changes no byte
 abbrev pub ToldRefused : Type 0
 ToldRefused = (m : Message) (b : Bytes) (r : Told) (times prices : List ℕ) → Tells m b r times prices → ¬ (r .answer .number ≡ 0)
     → bytes (r .next) times prices ≡ b
@@ -80,8 +91,7 @@ abbrev pub SettledInShape : Type 0
 SettledInShape = (time : ℕ) (b : Bytes) (r : Settled) (times prices : List ℕ) → Settles time b r times prices
     → shaped (bytes (r .next) times prices) ≡ shaped b
 
--- "A freed place becomes 0 and no other unused place is written": of the places behind the trades that are held then, one that was used is 0, any
--- other as it was
+-- behind the trades that a call leaves, a place that was used before is 0, and any other place is as it was
 abbrev pub Unwritten : (used held : ℕ) (before after : List ℕ) → Type 0
 Unwritten used held before after = (j : ℕ) → held ≤ j → (j < used → getD after j 0 ≡ 0) × (used ≤ j → getD after j 0 ≡ getD before j 0)
 
@@ -103,13 +113,19 @@ pub record Laws : Type 0 where
   pub told-one : ToldOne
   pub settled-one : SettledOne
   pub read-by-the-rules : ReadByTheRules
+  pub next-by-the-rules : NextByTheRules
   pub told-refused : ToldRefused
   pub settled-refused : SettledRefused
   pub told-in-shape : ToldInShape
   pub settled-in-shape : SettledInShape
   pub told-unused : ToldUnused
   pub settled-unused : SettledUnused
+  pub no-notice-is : NoNoticeIs
   -- two results that a promise of src/lib.rt allows agree, in the answer, the next record and every place
+  pub zeros-determined : (number : ℕ) → Determines (λ (x : Answer). x ≡ zeros number)
+  pub zero-notice-determined : (number : ℕ) → Determines (λ (x : Notice). x ≡ noNotice number)
+  pub none-coming-determined : (number : ℕ) → Determines (λ (x : Upcoming). x ≡ noneComing number)
   pub tell-determined : (m : Message) (b : Bytes) → Determines (λ (x : Left Told). Tells m b (x .result) (x .times) (x .prices))
   pub settle-determined : (time : ℕ) (b : Bytes) → Determines (λ (x : Left Settled). Settles time b (x .result) (x .times) (x .prices))
   pub read-determined : (b : Bytes) → Determines (λ (r : Answer). r ≡ reading b)
+  pub next-determined : (b : Bytes) → Determines (λ (r : Upcoming). r ≡ coming b)

@@ -1,6 +1,6 @@
 -- What the private functions of a call promise each other.
 -- Assumes nothing.
-use Prim.Native.Nat.{ℕ, _+_, _*_, _≤_}
+use Prim.Native.Nat.{ℕ, _+_, _*_, _^_, _≤_, _<_}
 use mathlib.Core.Bool.{true, false, not}
 use mathlib.Core.List.{List, [], _∷_}
 use mathlib.Core.Path.{_≡_}
@@ -29,13 +29,13 @@ use Rattle.stock.specs.declared.Record.{Record}
 use Rattle.stock.specs.declared.sight.Sight.{Sight}
 use Rattle.stock.specs.declared.steps.Step.{Step}
 
--- the record of a stock that has these parts, and of so many trades
+-- the record of the stock with these parts, and with so many held trades
 abbrev pub recordOf : Kept → Quotes → ℕ → Record
 recordOf k q count = record { stock = stockOf k q; count = count }
 
 -- ------------------------------------------------------------------ what a call sees first
 
--- that a stock is shaped and no rubbish; of such a one, its window's figures and its earliest moment
+-- what a call finds: whether the stock is shaped and no rubbish, and if so its window's figures and its earliest moment
 pub record Seen (b : Bytes) (g : Sight) : Type 0 where
   pub sound : g .sound ≡ allOf (shaped b ∷ not (rubbish (view b)) ∷ [])
   pub figures : g .sound ≡ true → g .figures ≡ figuresOf (view b .window)
@@ -45,13 +45,18 @@ pub record Seen (b : Bytes) (g : Sight) : Type 0 where
 unfoldable pub messageNumber : Message → Sight → Record → ℕ
 messageNumber m g r = if g .sound then first (messageChecks m (r .count) (g .earliest) (r .stock)) else 1
 
--- settling's number, likewise
+-- settling's number from what was seen
 unfoldable pub settleNumber : ℕ → Sight → Stock → ℕ
 settleNumber time g s = if g .sound then first (timeChecks time (g .earliest) s) else 1
 
+-- the bands that are shown fit 32 bits
+abbrev pub Fits : Shown → Type 0
+Fits s = (s .bands .lower < 2 ^ 32) × (s .bands .upper < 2 ^ 32)
+
 -- a number with what is shown of a stock
 abbrev pub answerBy : ℕ → Kept → Shown → Answer
-answerBy number k s = record { number = number; state = k .course .state; reference = k .reference .price; bands = s .bands; best = s .best }
+answerBy number k s =
+    record { number = number; state = k .course .state; reference = k .reference .price; lower = s .bands .lower; upper = s .bands .upper; best = s .best }
 
 -- ------------------------------------------------------------------ a step, before a place is written
 
@@ -64,7 +69,7 @@ changeOf (P time participant) = Stay
 changeOf (R time participant price) = Start time price
 changeOf (X time participant price) = Empty
 
--- and what a moment does, by its mark and its time
+-- what a moment does to the window, by its mark and its time
 unfoldable pub changeAt : ℕ → ℕ → ℕ → List ℕ → Change
 changeAt mark time count times =
     if eqb mark mark-v then Leave (goneOf time count times) else
@@ -77,21 +82,21 @@ pub record Held (f : Figures) (times prices : List ℕ) : Type 0 where
   pub figures : f ≡ figuresOf (trades (f .count) times prices)
   pub good : (clock : ℕ) × (badTrades clock (trades (f .count) times prices) ≡ false)
 
--- the figures with a trade more
+-- the figures with one more trade
 unfoldable pub withTrade : Figures → ℕ → ℕ → Figures
 withTrade f time price =
     record { count = f .count + 1; oldest = if eqb (f .count) 0 then time else f .oldest; sum = f .sum + price }
 
--- the figures of the window once it is changed, as prices of 32 bits have them
+-- f are the figures of the changed window, and 32-bit prices can have them
 pub record Changed (change : Change) (count : ℕ) (times prices : List ℕ) (f : Figures) : Type 0 where
   pub figures : f ≡ figuresOf (changed change (trades count times prices))
   pub small : f .sum ≤ 4_294_967_295 * f .count
 
--- a stock beside the window of which these are the figures
+-- the stock with the window that has these figures
 abbrev pub holding : Stock → Figures → List ℕ → List ℕ → Whole
 holding s f times prices = record { stock = s; window = trades (f .count) times prices }
 
--- the step makes of a stock what the rules make of it: its stock with what it shows, its count, and its window once it is changed
+-- the step does to a stock what the rules do: it gives the stock with what it shows, its count, and the change of its window
 pub record Makes (rule : Whole → Whole) (h : Whole) (step : Step) : Type 0 where
   pub after : step .after ≡ afterOf (rule h .stock)
   pub count : step .count ≡ length (rule h .window)

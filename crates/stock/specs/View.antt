@@ -8,12 +8,13 @@ use lib.Dec.{eqb}
 use lib.ListN.{length}
 use Rattle.forms.specs.Choice.{if_then_else_, allOf}
 use Rattle.rules.specs.Stock.{Whole}
-use Rattle.rules.specs.Moments.{no-moment, fire}
+use Rattle.rules.specs.Moments.{fire}
 use Rattle.rules.specs.Messages.{after}
-use Rattle.rules.specs.Numbers.{tells, settles, zeros, tellAnswer, settleAnswer, readAnswer}
+use Rattle.rules.specs.Numbers.{tells, settles, zeros, noNotice, tellAnswer, settleAnswer, readAnswer, noneComing, nextAnswer}
 use Rattle.rules.specs.declared.Answer.{Answer}
 use Rattle.rules.specs.declared.Message.{Message}
 use Rattle.rules.specs.declared.Notice.{Notice}
+use Rattle.rules.specs.declared.Upcoming.{Upcoming}
 use Rattle.window.specs.Places.{trades, laid}
 use Rattle.stock.specs.declared.Record.{Record}
 use Rattle.stock.specs.declared.Told.{Told}
@@ -30,11 +31,11 @@ pub record Bytes : Type 0 where
 abbrev pub bytes : Record → List ℕ → List ℕ → Bytes
 bytes kept times prices = record { kept = kept; times = times; prices = prices }
 
--- read: the stock with the trades in the first `count` places, the oldest first
+-- the stock that the bytes mean, with the trades in the first `count` places, the oldest first
 abbrev pub view : Bytes → Whole
 view b = record { stock = b .kept .stock; window = trades (b .kept .count) (b .times) (b .prices) }
 
--- placed where b stood: the window in front, zeros in freed places, all other places as they were
+-- the bytes b with a stock written over them: the window in front, zeros in freed places, all other places as they were
 abbrev pub lay : Whole → Bytes → Bytes
 lay h b = record {
   kept = record { stock = h .stock; count = length (h .window) };
@@ -53,17 +54,19 @@ pub record Outcome (A : Type 0) : Type 0 where
   pub answer : A
   pub bytes : Bytes
 
--- parts that have not 512 places get 1; what is done leaves the layout of what the rules make of the stock, a refusal every byte
+-- telling a message: parts without 512 places get 1; an accepted message leaves the layout of the stock that the rules make, a refusal leaves
+-- every byte
 unfoldable pub telling : Message → Bytes → Outcome Answer
 telling m b =
     if shaped b then record { answer = tellAnswer m (view b); bytes = if eqb (tells m (view b)) 0 then lay (after m (view b)) b else b }
     else record { answer = zeros 1; bytes = b }
 
--- settling, likewise
+-- settling to a time: parts without 512 places get 1; a moment that is done leaves the layout of the stock that the rules make, a refusal leaves
+-- every byte
 unfoldable pub settling : ℕ → Bytes → Outcome Notice
 settling time b =
     if shaped b then record { answer = settleAnswer time (view b); bytes = if eqb (settles time (view b)) 0 then lay (fire (view b)) b else b }
-    else record { answer = record { answer = zeros 1; moment = no-moment }; bytes = b }
+    else record { answer = noNotice 1; bytes = b }
 
 -- the promise of telling: the answer, the next record and all places at exit are that outcome
 abbrev pub Tells : Message → Bytes → Told → List ℕ → List ℕ → Type 0
@@ -75,6 +78,10 @@ Settles time b r times prices = _≡_ {A = Outcome Notice} (record { answer = r 
 
 -- ------------------------------------------------------------------ what reading gives
 
--- parts that have not 512 places get 1; of others the rules' answer
+-- reading: parts without 512 places get 1, others get the rules' answer
 unfoldable pub reading : Bytes → Answer
 reading b = if shaped b then readAnswer (view b) else zeros 1
+
+-- asking what comes next: parts without 512 places get 1 with no moment, others get the rules' answer
+unfoldable pub coming : Bytes → Upcoming
+coming b = if shaped b then nextAnswer (view b) else noneComing 1

@@ -1,28 +1,33 @@
-// What a call is answered.
+// The answers of the calls.
 ghost use mathlib.Core.Path.{_≡_};
-ghost use Rattle.rules.specs.Numbers.{answer};
+ghost use Prim.Native.Nat.{_≤_};
+ghost use Rattle.rules.specs.Moments.{no-moment};
+ghost use Rattle.rules.specs.Numbers.{answer, beside};
 ghost use Rattle.quotes.specs.Parts.{stockOf};
-ghost use Rattle.stock.specs.Steps.{answerBy};
-use band::Limits;
+ghost use Rattle.stock.specs.Steps.{Fits, answerBy};
 use quotes::Kept;
 use quotes::Shown;
 use rules::Answer;
+use rules::BAD_SETUP;
 use rules::Best;
+use rules::MARK_NONE;
+use rules::NO_STOCK;
+use rules::Notice;
 use rules::Quotes;
+use rules::RUBBISH;
 use rules::Side;
 
 // A number with what is shown of a stock. It is written field by field, so that no struct is copied right after it was written.
 pub(crate) fn with_shown(number: u32, k: Kept, s: Shown) -> Answer
+    requires { ⌜ Fits s ⌝ }
     ensures { λ r. ⌜ r ≡ answerBy number k s ⌝ }
 {
     Answer {
         number,
         state: k.course.state,
         reference: k.reference.price,
-        bands: Limits {
-            lower: s.bands.lower,
-            upper: s.bands.upper,
-        },
+        lower: s.bands.lower as u32,
+        upper: s.bands.upper as u32,
         best: Best {
             bid: Side {
                 price: s.best.bid.price,
@@ -36,24 +41,26 @@ pub(crate) fn with_shown(number: u32, k: Kept, s: Shown) -> Answer
     }
 }
 
-// A number with what the stock shows, after 1, 2 and 3 with zeros.
+// A number with what the stock shows, or with zeros for 1, 2 and 3. Only with 1 can the reference be out of range.
 pub(crate) fn answer_of(number: u32, k: Kept, q: Quotes) -> Answer
+    requires { ⌜ (¬ (number ≡ 1) → k .reference .price ≤ 999999999) ⌝ }
     ensures { λ r. ⌜ r ≡ answer number (stockOf k q) ⌝ }
 {
-    if (number == 1) | (number == 2) | (number == 3) {
-        let none = Side { price: 0, flag: 0 };
-        return Answer {
-            number,
-            state: 0,
-            reference: 0,
-            bands: Limits { lower: 0, upper: 0 },
-            best: Best {
-                bid: none,
-                offer: none,
-            },
-        };
+    if (number == RUBBISH) | (number == BAD_SETUP) | (number == NO_STOCK) {
+        return crate::zeros(number);
     }
     let basis = quotes::basis_of(k);
     let shown = quotes::show(basis, q);
     with_shown(number, k, shown)
+}
+
+// An answer with no moment beside it.
+pub(crate) fn without_moment(answer: Answer) -> Notice
+    ensures { λ r. ⌜ r ≡ beside no-moment answer ⌝ }
+{
+    Notice {
+        answer,
+        mark: MARK_NONE,
+        time: 0,
+    }
 }

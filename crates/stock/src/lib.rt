@@ -1,14 +1,21 @@
-// One stock's record by value, beside its two lent parts of 512 places. Every call judges the record and goes
-// over its held trades first; a step is worked out without a place being written, and written at the end.
-// No public function has a `requires`: for any record, parts of any length and any numbers the promise gives
-// the answer, the next record and every place.
+// One stock's record by value, with its two lent parts of 512 places. Every call first validates the record and its
+// held trades; it computes a step without writing a place, and writes the places at the end. No public function has
+// a `requires`: for any record, parts of any length and any numbers the promise gives the answer, the next record
+// and every place.
 ghost use mathlib.Core.Path.{_≡_};
-ghost use Rattle.stock.specs.View.{bytes, Tells, Settles, reading};
+ghost use Rattle.rules.specs.Numbers.{zeros, noNotice, noneComing};
+ghost use Rattle.stock.specs.View.{bytes, Tells, Settles, reading, coming};
 use rules::Answer;
+use rules::Best;
+use rules::DONE;
+use rules::FLAG_ABSENT;
+use rules::MARK_NONE;
 use rules::Message;
-use rules::Moment;
 use rules::Notice;
+use rules::RUBBISH;
+use rules::Side;
 use rules::Stock;
+use rules::Upcoming;
 
 mod answers;
 mod parts;
@@ -34,6 +41,46 @@ pub struct Settled {
     pub next: Record,
 }
 
+// A number with zeros beside it.
+pub fn zeros(number: u32) -> Answer
+    ensures { λ x. ⌜ x ≡ zeros number ⌝ }
+{
+    let none = Side {
+        price: 0,
+        flag: FLAG_ABSENT,
+    };
+    Answer {
+        number,
+        state: 0,
+        reference: 0,
+        lower: 0,
+        upper: 0,
+        best: Best {
+            bid: none,
+            offer: none,
+        },
+    }
+}
+
+// A notice with a number, zeros beside it and no moment.
+pub fn zero_notice(number: u32) -> Notice
+    ensures { λ x. ⌜ x ≡ noNotice number ⌝ }
+{
+    let answer = zeros(number);
+    answers::without_moment(answer)
+}
+
+// A number with no moment still to come.
+pub fn none_coming(number: u32) -> Upcoming
+    ensures { λ x. ⌜ x ≡ noneComing number ⌝ }
+{
+    Upcoming {
+        number,
+        mark: MARK_NONE,
+        time: 0,
+    }
+}
+
 impl Record {
     // Tells the stock a message.
     pub fn tell(self, times: &mut [u32], prices: &mut [u32], message: Message) -> Told
@@ -44,7 +91,7 @@ impl Record {
         let k = parts::kept_of(s);
         let seen = sight::see(self.count, k, q, times, prices);
         let number = sight::message_number(message, seen, self.count, k, q);
-        if number == 0 {
+        if number == DONE {
             let figures = seen.figures;
             let step = steps::after_message(message, figures, times, prices, k, q);
             let change = step.change;
@@ -52,7 +99,7 @@ impl Record {
             let quotes = step.after.quotes;
             let shown = step.after.shown;
             window::write(times, prices, self.count, change);
-            let answer = answers::with_shown(0, kept, shown);
+            let answer = answers::with_shown(DONE, kept, shown);
             let next = parts::record_of(kept, quotes, step.count);
             return Told { answer, next };
         }
@@ -69,7 +116,7 @@ impl Record {
         let k = parts::kept_of(s);
         let seen = sight::see(self.count, k, q, times, prices);
         let number = sight::settle_number(time, seen, k);
-        if number == 0 {
+        if number == DONE {
             let moment = seen.earliest;
             let figures = seen.figures;
             let step = steps::after_moment(moment, time, figures, times, prices, k, q);
@@ -78,14 +125,17 @@ impl Record {
             let quotes = step.after.quotes;
             let shown = step.after.shown;
             window::write(times, prices, self.count, change);
-            let answer = answers::with_shown(0, kept, shown);
-            let notice = Notice { answer, moment };
+            let answer = answers::with_shown(DONE, kept, shown);
+            let notice = Notice {
+                answer,
+                mark: moment.mark,
+                time: steps::own_time(moment, time),
+            };
             let next = parts::record_of(kept, quotes, step.count);
             return Settled { notice, next };
         }
         let answer = answers::answer_of(number, k, q);
-        let moment = Moment { mark: 0, time: 0 };
-        let notice = Notice { answer, moment };
+        let notice = answers::without_moment(answer);
         Settled { notice, next: self }
     }
 
@@ -99,8 +149,28 @@ impl Record {
         let seen = sight::see(self.count, k, q, times, prices);
         let sound = seen.sound;
         if sound {
-            return answers::answer_of(0, k, q);
+            return answers::answer_of(DONE, k, q);
         }
-        answers::answer_of(1, k, q)
+        zeros(RUBBISH)
+    }
+
+    // Gives the stock's earliest moment still to come; nothing is changed.
+    pub fn next(self, times: &[u32], prices: &[u32]) -> Upcoming
+        ensures { λ r. ⌜ r ≡ coming (bytes self (now (times .entry)) (now (prices .entry))) ⌝ }
+    {
+        let s = self.stock;
+        let q = s.quotes;
+        let k = parts::kept_of(s);
+        let seen = sight::see(self.count, k, q, times, prices);
+        let sound = seen.sound;
+        if sound {
+            let earliest = seen.earliest;
+            return Upcoming {
+                number: DONE,
+                mark: earliest.mark,
+                time: earliest.time as u32,
+            };
+        }
+        none_coming(RUBBISH)
     }
 }

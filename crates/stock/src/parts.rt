@@ -1,4 +1,4 @@
-// A stock taken apart, and a record put together.
+// Takes a stock apart and puts a record together.
 ghost use mathlib.Core.Path.{_≡_};
 ghost use Rattle.quotes.specs.Parts.{keptOf};
 ghost use Rattle.stock.specs.Steps.{recordOf};
@@ -22,7 +22,7 @@ pub(crate) fn kept_of(s: Stock) -> Kept
     }
 }
 
-// The record of a stock that has these parts, and of so many trades.
+// The record of the stock with these parts, and with `count` held trades.
 pub(crate) fn record_of(k: Kept, quotes: Quotes, count: u32) -> Record
     ensures { λ r. ⌜ r ≡ recordOf k quotes count ⌝ }
 {

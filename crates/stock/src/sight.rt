@@ -1,4 +1,4 @@
-// What every call looks at first: its stock with its held trades, and the number that refuses it.
+// The first look of every call at its stock and the held trades, and the number that refuses the call.
 ghost use mathlib.Core.Path.{_≡_};
 ghost use Rattle.quotes.specs.Parts.{bare};
 ghost use Rattle.stock.specs.View.{bytes};
@@ -8,8 +8,9 @@ use rules::Figures;
 use rules::Message;
 use rules::Moment;
 use rules::Quotes;
+use rules::RUBBISH;
 
-// What is seen of a stock: figures and moment are to be used only where it is sound.
+// What a call has found of its stock; figures and moment are valid only where the stock is sound.
 pub struct Sight {
     pub sound: bool,
     pub figures: Figures,
@@ -38,7 +39,7 @@ pub(crate) fn message_number(m: Message, seen: Sight, count: u32, k: Kept, q: Qu
     if seen.sound {
         return judge::message_refusal(m, count, seen.earliest, k, q);
     }
-    1
+    RUBBISH
 }
 
 // The number that settling to a time is answered with.
@@ -48,5 +49,5 @@ pub(crate) fn settle_number(time: u32, seen: Sight, k: Kept) -> u32
     if seen.sound {
         return judge::settle_refusal(time, seen.earliest, k);
     }
-    1
+    RUBBISH
 }

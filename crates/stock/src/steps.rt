@@ -1,4 +1,4 @@
-// An accepted call, worked out: what it makes of the stock, and what it does to the window. No place is written.
+// The effect of an accepted call on the stock and on the window, computed without writing a place.
 ghost use mathlib.Core.Path.{_≡_};
 ghost use Prim.Native.Nat.{_*_, _≤_};
 ghost use Rattle.rules.specs.Moments.{come};
@@ -16,7 +16,8 @@ use rules::Quotes;
 use states::After;
 use window::Change;
 
-// The stock with what it shows, how many trades it then holds, and what is still to be done to its places.
+// The stock with what it shows, how many trades it then holds, and the change that is still to be written to its
+// places.
 pub struct Step {
     pub after: After,
     pub count: u32,
@@ -37,7 +38,7 @@ fn change_of(m: Message) -> Change
     }
 }
 
-// What a moment does to it.
+// What a moment does to the window.
 fn change_at(mark: u32, time: u32, count: u32, times: &[u32]) -> Change
     ensures { λ r. ⌜ r ≡ changeAt mark time count (now (times .entry)) ⌝ }
 {
@@ -54,7 +55,7 @@ fn change_at(mark: u32, time: u32, count: u32, times: &[u32]) -> Change
     Change::Stay
 }
 
-// The figures with a trade more.
+// The figures with one more trade.
 fn joined(f: Figures, time: u32, price: u32) -> Figures
     requires { ⌜ (f .count ≤ 512) × (f .sum ≤ 999999999 * f .count) ⌝ }
     ensures { λ r. ⌜ r ≡ withTrade f time price ⌝ }
@@ -75,7 +76,7 @@ fn joined(f: Figures, time: u32, price: u32) -> Figures
     }
 }
 
-// The figures of the window once it is changed.
+// The figures of the window after a change.
 fn figures_after(change: Change, f: Figures, times: &[u32], prices: &[u32]) -> Figures
     requires { ⌜ Held f (now times) (now prices) ⌝ }
     ensures { λ r. ⌜ Changed change (f .count) (now (times .entry)) (now (prices .entry)) r ⌝ }
@@ -97,7 +98,7 @@ fn figures_after(change: Change, f: Figures, times: &[u32], prices: &[u32]) -> F
     }
 }
 
-// The step of an accepted message, with the figures of the window that is held.
+// The step of an accepted message, from the figures of the held window.
 pub(crate) fn after_message(
     m: Message,
     f: Figures,
@@ -119,8 +120,8 @@ pub(crate) fn after_message(
     }
 }
 
-// A moment's own time, which is not after the time `by` which it is due.
-fn own_time(m: Moment, by: u32) -> u32
+// A moment's own time, which is at most `by`, the time by which it is due.
+pub(crate) fn own_time(m: Moment, by: u32) -> u32
     requires { ⌜ m .time ≤ by ⌝ }
     ensures { λ r. ⌜ r ≡ m .time ⌝ }
 {
@@ -128,7 +129,7 @@ fn own_time(m: Moment, by: u32) -> u32
     own
 }
 
-// The step of a moment that is due by a time; it happens at its own.
+// The step of a moment that is due by a time; it happens at its own time.
 pub(crate) fn after_moment(
     m: Moment,
     by: u32,

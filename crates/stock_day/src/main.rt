@@ -1,67 +1,33 @@
 // Plays the day of document 01 twice, through the methods of one stock's record and through the book's functions
-// over a lent record, and prints the lines that document 01 prints, twice: the stock column is 0.
+// over a lent record, and prints the lines of document 01 each time; the stock column is 0.
 use rules::Answer;
-use rules::Course;
+use rules::DONE;
 use rules::Message;
-use rules::Quotes;
-use rules::Reference;
-use rules::Setup;
-use rules::Stock;
+use rules::PLACES;
 use stock::Record;
 use stock::Settled;
 use stock::Told;
 
 mod lend;
 
-// The record that a setup starts: Waiting, no quotes, clock 0, no trade.
-fn started(setup: Setup, end: u32) -> Record {
-    let course = Course {
-        state: 0,
-        clock: 0,
-        early: 1,
-        entry: 0,
-        pause: 0,
-    };
-    let reference = Reference {
-        price: 0,
-        start: 0,
-        hold: 0,
-    };
-    let quotes = Quotes {
-        bids: [0; 16],
-        offers: [0; 16],
-    };
-    Record {
-        stock: Stock {
-            setup,
-            end,
-            course,
-            reference,
-            quotes,
-        },
-        count: 0,
-    }
-}
-
 fn print_number(n: u64) {
     io::write_all(1, b" ");
     io::print_decimal(1, n);
 }
 
-// stock, time, mark or letter, answer, state, reference, lower, upper, bid, flag, offer, flag
-fn print_line(time: u64, letter: u8, a: Answer) {
-    let bands = a.bands;
+// Prints one line in the format of the day program.
+fn print_line(time: u32, letter: u8, a: Answer) {
     let bid = a.best.bid;
     let offer = a.best.offer;
     let text = [b' ', letter];
     io::write_all(1, b"0");
-    print_number(time);
+    print_number(time as u64);
     io::write_all(1, &text);
     print_number(a.number as u64);
     print_number(a.state as u64);
     print_number(a.reference as u64);
-    print_number(bands.lower);
-    print_number(bands.upper);
+    print_number(a.lower as u64);
+    print_number(a.upper as u64);
     print_number(bid.price as u64);
     print_number(bid.flag as u64);
     print_number(offer.price as u64);
@@ -77,7 +43,7 @@ fn settle(r: Record, times: &mut [u32], prices: &mut [u32], time: u32, lent: boo
     r.settle(times, prices, time)
 }
 
-// Tells the stock a message, likewise.
+// Tells the stock a message, by the method of its record or, where it is lent, by the book.
 fn tell(r: Record, times: &mut [u32], prices: &mut [u32], m: Message, lent: bool) -> Told {
     if lent {
         return lend::tell(r, times, prices, m);
@@ -92,11 +58,10 @@ fn settled(r: Record, times: &mut [u32], prices: &mut [u32], time: u32, lent: bo
         let done = settle(next, times, prices, time, lent);
         let notice = done.notice;
         let answer = notice.answer;
-        if answer.number != 0 {
+        if answer.number != DONE {
             return done.next;
         }
-        let moment = notice.moment;
-        print_line(moment.time, (moment.mark % 256) as u8, answer);
+        print_line(notice.time, (notice.mark % 256) as u8, answer);
         next = done.next;
     }
     next
@@ -114,7 +79,7 @@ fn told(
 ) -> Record {
     let before = settled(r, times, prices, time, lent);
     let done = tell(before, times, prices, m, lent);
-    print_line(time as u64, letter, done.answer);
+    print_line(time, letter, done.answer);
     done.next
 }
 
@@ -170,15 +135,10 @@ fn reopened(r: Record, times: &mut [u32], prices: &mut [u32], lent: bool) -> Rec
 
 // The day, from its setup on.
 fn day(lent: bool) {
-    let mut t = [0u32; 512];
-    let mut p = [0u32; 512];
-    let setup = Setup {
-        tier: 2,
-        leverage: 1,
-        primary: 2,
-        close: 115_000,
-    };
-    let r = started(setup, 23_400_000);
+    let mut t = [0u32; PLACES];
+    let mut p = [0u32; PLACES];
+    let setups = [2, 1, 2, 115_000];
+    let r = calls::started_at(&setups, 23_400_000, 0);
     let r = opened(r, &mut t, &mut p, lent);
     let r = limited(r, &mut t, &mut p, lent);
     let r = reopened(r, &mut t, &mut p, lent);

@@ -147,5 +147,6 @@ laws = record {
   first-line = first-line;
   read-determined = λ text r s p q. read-scanned text r p ∙ sym (read-scanned text s q);
   feed-determined = λ text. agree (toFeed text);
+  unread-determined = agree unread;
   print-determined = λ bytes at stock time letter numbers. agree (printing bytes at stock time letter numbers);
 }

@@ -42,13 +42,13 @@ pub record Example : Type 0 where
   pub text : List ℕ
   pub line : Line
 
--- each is read so
+-- each text is read as its example says
 abbrev pub AllRead : List Example → Type 0
 AllRead [] = Unit {0}
 AllRead (e ∷ es) = Reads (e .text) (e .line) × AllRead es
 
 -- `C 1 7 23400000`, `S 2 1 2 115000`, `T 0 5000 92000`, `Q 0 2000 5 114900 115100`, `O 0 1000 2 115000`, `P 0 5000 2`, `R 0 319000 2 95000`, `X 0 5000 2 7`;
--- and no lines: `Q 0 2000 5 114900`, `T 0 5000 92000 1`, `t 0 5000 92000`, `T  0 5000 92000`, `T 0 5000 92000 `, `T`, `T 0 5000 92000` and a carriage
+-- these are no lines: `Q 0 2000 5 114900`, `T 0 5000 92000 1`, `t 0 5000 92000`, `T  0 5000 92000`, `T 0 5000 92000 `, `T`, `T 0 5000 92000` and a carriage
 -- return (13), the same with a tab (9) for its first space, and no byte
 abbrev pub lines : List Example
 lines =

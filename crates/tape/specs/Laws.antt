@@ -13,6 +13,7 @@ use Rattle.tape.specs.Examples.{right, words, AllRead, lines, ends, endi
 use Rattle.tape.specs.Lines.{isNumber, spelt, IsLine, lineOf, unread, Reads, toFeed}
 use Rattle.tape.specs.Printing.{digits, printed, Printed, printing}
 use Rattle.tape.specs.Words.{Every, IsFeed, IsWord, spaced, counts}
+use Rattle.tape.specs.declared.Line.{Line}
 
 -- ------------------------------------------------------------------ in words
 
@@ -20,17 +21,17 @@ use Rattle.tape.specs.Words.{Every, IsFeed, IsWord, spaced, counts}
 abbrev pub FeedIs : Type 0
 FeedIs = (text : List ℕ) → IsFeed text (toFeed text)
 
--- a line is a letter, and behind a space each as many words as follow the letter
+-- a line is a letter and as many words as follow that letter, each behind one space
 abbrev pub LineIs : Type 0
 LineIs = (text : List ℕ) (letter : ℕ) (words : List (List ℕ))
     → IsLine text letter words ↔ (text ≡ letter ∷ spaced words and Every IsWord words and 1 ≤ length words and Gives (counts letter) (length words))
 
--- it is read as its letter and what its words spell, in their order; a text that is no line as letter 0
+-- a line is read as its letter and the numbers that its words spell, in their order; a text that is no line is read as letter 0
 abbrev pub ReadAs : Type 0
 ReadAs = (letter : ℕ) (words : List (List ℕ)) → let l = lineOf letter words in
     l .letter ≡ letter and ((j : ℕ) → j < length words → getD (l .numbers) j 0 ≡ spelt (getD words j [])) and unread .letter ≡ 0
 
--- a digit more: ten times the number before it, and the digit
+-- a number with one more digit is ten times the number before it, plus the digit
 abbrev pub SpeltIs : Type 0
 SpeltIs = spelt [] ≡ 0 and ((word : List ℕ) (c : ℕ) → spelt (word ++ (c ∷ [])) ≡ 10 * spelt word + (c - 48))
 
@@ -43,7 +44,7 @@ abbrev pub PrintedIs : Type 0
 PrintedIs = (stock time letter : ℕ) (numbers : List ℕ)
     → printed stock time letter numbers ≡ digits stock ++ (spaced (digits time ∷ (letter ∷ []) ∷ map digits numbers) ++ (10 ∷ []))
 
--- ------------------------------------------------------------------ what follows of them
+-- ------------------------------------------------------------------ what follows from them
 
 -- the digits that printing writes are a number, and reading them gives it back
 pub record ReadsBack (n : ℕ) : Type 0 where
@@ -83,5 +84,6 @@ pub record Laws : Type 0 where
   -- two results that a promise of src/lib.rt allows agree
   pub read-determined : (text : List ℕ) → Determines (λ r. Reads text r)
   pub feed-determined : (text : List ℕ) → Determines (λ (r : ℕ). r ≡ toFeed text)
+  pub unread-determined : Determines (λ (r : Line). r ≡ unread)
   pub print-determined : (bytes : List ℕ) (at stock time letter : ℕ) (numbers : List ℕ)
       → Determines (λ (r : Printed). r ≡ printing bytes at stock time letter numbers)

@@ -17,7 +17,7 @@ use Rattle.tape.specs.declared.Line.{Line}
 unfoldable pub isDigit : ℕ → Bool
 isDigit c = allOf (leb 48 c ∷ leb c 57 ∷ [])
 
--- one digit more
+-- a number with one more digit
 unfoldable pub further : ℕ → ℕ → ℕ
 further n c = 10 * n + (c - 48)
 
@@ -25,13 +25,13 @@ further n c = 10 * n + (c - 48)
 unfoldable pub spelt : List ℕ → ℕ
 spelt word = foldl further 0 word
 
--- "a number is 1 to 10 digits", and none is "over 4,294,967,295"
+-- a number has one to ten digits, and is at most 4,294,967,295
 unfoldable pub isNumber : List ℕ → Bool
 isNumber word = allOf (leb 1 (length word) ∷ leb (length word) 10 ∷ every isDigit word ∷ leb (spelt word) 4_294_967_295 ∷ [])
 
 -- ------------------------------------------------------------------ lines
 
--- "One space parts the fields": a space, the code 32, and a word, for each word
+-- words after one space each: a space, the code 32, and a word, for each word
 unfoldable pub parted : List (List ℕ) → List ℕ
 parted [] = []
 parted (word ∷ words) = 32 ∷ (word ++ parted words)
@@ -41,8 +41,8 @@ pub record Row : Type 0 where
   pub letter : ℕ
   pub numbers : ℕ
 
--- "`C stocks messages E`", "`S tier leverage primary close`"; "letter, stock, time, and after these for T the price, for Q participant,
--- bid and offer, for P the participant, for O, R and X participant and price". The codes are those of C, S, T, Q, O, P, R and X
+-- how many numbers follow each letter: three in C (stocks, messages, E), four in S (a setup), and in a message stock, time and its own fields. The
+-- codes are those of C, S, T, Q, O, P, R and X
 abbrev pub table : List Row
 table =
     record { letter = 67; numbers = 3 } ∷ record { letter = 83; numbers = 4 } ∷ record { letter = 84; numbers = 3 } ∷ record { letter = 81; numbers = 5 }
@@ -66,19 +66,19 @@ pub record IsLine (text : List ℕ) (letter : ℕ) (words : List (List ℕ)) : T
 
 -- ------------------------------------------------------------------ what reading gives
 
--- what stands in a line
+-- the content of a line
 abbrev pub lineOf : ℕ → List (List ℕ) → Line
 lineOf letter words = record { letter = letter; numbers = map spelt words ++ replicate (5 - length words) 0 }
 
--- what is given of a text that cannot be read
+-- the result for a text that cannot be read
 abbrev pub unread : Line
 unread = record { letter = 0; numbers = replicate 5 0 }
 
--- the promise of `read`: what stands in the line that the text is, or that it is none
+-- the promise of `read`: the content of the line, or the result for a text that is no line
 pub data Reads (text : List ℕ) (r : Line) : Type 0 where
   a-line : (letter : ℕ) (words : List (List ℕ)) → IsLine text letter words → r ≡ lineOf letter words → Reads text r
   no-line : ((letter : ℕ) (words : List (List ℕ)) → IsLine text letter words → ⊥) → r ≡ unread → Reads text r
 
--- "a line feed ends each line": how many bytes stand before the first line feed, the code 10, all where there is none
+-- where a line ends: how many bytes stand before the first line feed, the code 10, all where there is none
 abbrev pub toFeed : List ℕ → ℕ
 toFeed text = indexOf 10 text

@@ -8,12 +8,12 @@ use lib.Seq.{sets}
 use Rattle.forms.specs.Choice.{if_then_else_, allOf}
 use Rattle.tape.specs.Lines.{parted}
 
--- the digits of a number that has at most as many as the first number says, without zeros ahead of them
+-- the digits of a number, without leading zeros; the first number says how many digits it has at most
 unfoldable pub decimal : ℕ → ℕ → List ℕ
 decimal zero n = []
 decimal (suc most) n = (if ltb n 10 then [] else decimal most (n / 10)) ++ ((48 + n % 10) ∷ [])
 
--- of any number of 64 bits
+-- the digits of any 64-bit number
 unfoldable pub digits : ℕ → List ℕ
 digits n = decimal 20 n
 
@@ -21,11 +21,11 @@ digits n = decimal 20 n
 abbrev pub two : ℕ → List ℕ
 two n = (48 + n / 10) ∷ (48 + n % 10) ∷ []
 
--- "Each printed line: stock, time, mark or letter",
+-- the beginning of a printed line: the stock, the time and a mark or letter
 unfoldable pub ahead : ℕ → ℕ → ℕ → List ℕ
 ahead stock time letter = digits stock ++ parted (digits time ∷ (letter ∷ []) ∷ [])
 
--- and then the numbers of the answer; 10 is the line feed
+-- a whole printed line: its beginning, the numbers of the answer, and the line feed, which is 10
 unfoldable pub printed : ℕ → ℕ → ℕ → List ℕ → List ℕ
 printed stock time letter numbers = ahead stock time letter ++ parted (map digits numbers) ++ (10 ∷ [])
 

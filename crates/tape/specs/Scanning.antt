@@ -1,4 +1,4 @@
--- How `read` goes through a line behind its letter, byte by byte. Nobody has to believe it: `Reads` says what it comes to.
+-- How `read` scans a line after its letter, byte by byte. It need not be trusted: `Reads` states the result.
 -- Assumes nothing.
 use Prim.Native.Nat.{ℕ, _+_, _-_}
 use mathlib.Core.Bool.{true, false, not}
@@ -13,7 +13,7 @@ use Rattle.tape.specs.declared.scan.Reading.{Reading}
 
 -- ------------------------------------------------------------------ the number that is open
 
--- something is wrong
+-- the scan has failed
 abbrev pub stuck : Scan → Scan
 stuck s = record { good = false; count = s .count; digits = s .digits; value = s .value }
 
@@ -21,7 +21,7 @@ stuck s = record { good = false; count = s .count; digits = s .digits; value = s
 unfoldable pub opened : Scan → Scan
 opened s = if anyOf (eqb (s .digits) 0 ∷ leb 5 (s .count) ∷ []) then stuck s else record { good = true; count = s .count + 1; digits = 0; value = 0 }
 
--- the number that is open has one digit more, and is then `value`
+-- the open number has one more digit, and is then `value`
 unfoldable pub lengthened : Scan → ℕ → Scan
 lengthened s value =
     if anyOf (leb 10 (s .digits) ∷ ltb 4_294_967_295 value ∷ []) then stuck s else
@@ -31,35 +31,35 @@ lengthened s value =
 unfoldable pub digit : Scan → ℕ → Scan
 digit s c = if anyOf (ltb c 48 ∷ ltb 57 c ∷ eqb (s .count) 0 ∷ []) then stuck s else lengthened s (further (s .value) c)
 
--- one byte more
+-- the scan after the next byte
 unfoldable pub step : Scan → ℕ → Scan
 step s c = if not (s .good) then stuck s else if eqb c 32 then opened s else digit s c
 
 -- ------------------------------------------------------------------ all numbers
 
--- where a byte puts the number that is open: a space closes it, and the sixth place is none
+-- where a byte puts the open number: a space closes it; the sixth place means nowhere
 unfoldable pub place : Scan → ℕ → ℕ
 place s c = if anyOf (not (eqb c 32) ∷ eqb (s .count) 0 ∷ []) then 5 else s .count - 1
 
--- the numbers behind a byte
+-- the numbers after a byte
 abbrev pub kept : Reading → ℕ → List ℕ
 kept r c = set (r .numbers) (place (r .scan) c) (r .scan .value)
 
--- behind the letter
+-- the reading right after the letter
 abbrev pub begun : Reading
 begun = record { scan = record { good = true; count = 0; digits = 1; value = 0 }; numbers = replicate 5 0 }
 
--- one byte more
+-- the reading after the next byte
 abbrev pub turn : Reading → ℕ → Reading
 turn r c = record { scan = step (r .scan) c; numbers = kept r c }
 
--- at the end of the line, which closes a number as a space does: as many numbers as are wanted
+-- the line at its end, which closes a number as a space does, if as many numbers were read as are wanted
 unfoldable pub finished : ℕ → ℕ → Reading → Line
 finished letter want r =
     if anyOf (not (r .scan .good) ∷ eqb want 0 ∷ not (eqb (r .scan .count) want) ∷ eqb (r .scan .digits) 0 ∷ []) then unread else
     record { letter = letter; numbers = kept r 32 }
 
--- a whole line
+-- the line of a whole text
 unfoldable pub scanned : List ℕ → Line
 scanned [] = unread
 scanned (letter ∷ rest) = finished letter (numbersAfter letter) (foldl turn begun rest)

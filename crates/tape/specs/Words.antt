@@ -1,4 +1,4 @@
--- Lines in words (document 01, "The day program"): propositions over bytes, and no test of Lines.antt is asked. The laws `feed-is`, `line-is`,
+-- Lines in words (document 01, "The day program"): propositions over bytes, without the tests of Lines.antt. The laws `feed-is`, `line-is`,
 -- `read-as`, `spelt-is`, `digits-are` and `printed-is` say that Lines.antt and Printing.antt compute this.
 -- Assumes nothing.
 use Prim.Native.Nat.{ℕ, _≤_, _<_}
@@ -9,12 +9,12 @@ use Rattle.forms.specs.Words.{_or_, _and_, Number}
 use Rattle.forms.specs.Words.Number.{_for_}
 use Rattle.tape.specs.Lines.{spelt}
 
--- so of each of a list
+-- the proposition holds for each of a list
 abbrev pub Every : {A : Type 0} → (A → Type 0) → List A → Type 0
 Every P [] = Unit {0}
 Every P (x ∷ xs) = P x and Every P xs
 
--- no byte before k is a line feed, the code 10, and one stands there, or the text ends there
+-- no byte before k is a line feed, the code 10, and at k there is one, or the text ends
 abbrev pub IsFeed : List ℕ → ℕ → Type 0
 IsFeed text k = ((j : ℕ) → j < k → ¬ (getD text j 0 ≡ 10)) and (k ≡ length text or (k < length text and getD text k 0 ≡ 10))
 
@@ -27,7 +27,7 @@ abbrev pub spaced : List (List ℕ) → List ℕ
 spaced [] = []
 spaced (word ∷ words) = 32 ∷ (word ++ spaced words)
 
--- how many numbers follow C, S, T, Q, O, P, R and X; none any other letter
+-- how many numbers follow C, S, T, Q, O, P, R and X; no number follows any other letter
 abbrev pub counts : ℕ → List Number
 counts letter =
     3 for (letter ≡ 67) ∷

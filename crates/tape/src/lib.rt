@@ -1,9 +1,9 @@
-// The lines of a day, read and printed on slices of bytes. No function has a `requires`: any bytes are a line, or
-// cannot be read, and a line that has no room is not printed.
+// Reads and prints the lines of a day on slices of bytes. No function has a `requires`: bytes that are no line give
+// an unread line, and a line that does not fit is not printed.
 ghost use mathlib.Core.Path.{_≡_};
 ghost use Prim.Native.Nat.{_≤_};
 ghost use lib.ListN.{length};
-ghost use Rattle.tape.specs.Lines.{toFeed, Reads};
+ghost use Rattle.tape.specs.Lines.{toFeed, unread, Reads};
 ghost use Rattle.tape.specs.Printing.{printing};
 
 mod put;
@@ -12,20 +12,20 @@ mod scan;
 // A line has at most this many numbers.
 pub const MOST_NUMBERS: usize = 5;
 
-// And this many bytes, without its line feed.
+// A line has at most this many bytes, without its line feed.
 pub const LONGEST_LINE: usize = 56;
 
-// A line is printed with at most this many numbers behind its letter.
+// A printed line has at most this many numbers behind its letter.
 pub const MOST_PRINTED: usize = 16;
 
-// It then takes at most this many bytes.
+// A printed line takes at most this many bytes.
 pub const LONGEST_PRINTED: usize = 380;
 
-// What stands in a line.
+// The content of a line.
 pub struct Line {
     // 0: it cannot be read
     pub letter: u8,
-    // behind those that stand there, zeros
+    // unused entries are 0
     pub numbers: [u32; 5],
 }
 
@@ -37,12 +37,22 @@ pub fn to_feed(text: &[u8]) -> usize
     bytes::scan::find(text, 0, text.len(), b'\n')
 }
 
+// The result for a text that cannot be read.
+pub fn unread() -> Line
+    ensures { λ r. ⌜ r ≡ unread ⌝ }
+{
+    Line {
+        letter: 0,
+        numbers: [0; 5],
+    }
+}
+
 // Reads a line, which is given without its line feed.
 pub fn read(line: &[u8]) -> Line
     ensures { λ r. ⌜ Reads (now (line .entry)) r ⌝ }
 {
     if line.len() == 0 {
-        return scan::unread();
+        return unread();
     }
     let letter = line[0];
     let want = scan::numbers_after(letter);

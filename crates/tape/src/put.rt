@@ -1,4 +1,4 @@
-// Numbers as text, put into a slice of bytes from a place on.
+// Writes numbers as text into a slice of bytes, from a place on.
 ghost use mathlib.Core.Path.{_≡_};
 ghost use mathlib.Core.List.{[], _∷_, map};
 ghost use Prim.Native.Nat.{_+_, _≤_, _<_};
@@ -17,7 +17,7 @@ pub(crate) fn digit(out: &mut [u8], at: usize, d: u64) -> usize
     at + 1
 }
 
-// Puts two digits, of a number below 100.
+// Puts the two digits of a number below 100.
 pub(crate) fn pair(out: &mut [u8], at: usize, n: u64) -> usize
     requires { ⌜ (n < 100) × (at + 2 ≤ length (now out)) ⌝ }
     ensures { λ r. ⌜ r ≡ at + 2 ⌝ }

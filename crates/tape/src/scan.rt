@@ -1,11 +1,11 @@
-// A line behind its letter, read byte by byte: one space opens a number, and digits follow it. The number that is
-// open is kept apart from those before it, so that a turn of the loop stays in registers.
+// Scans a line after its letter, byte by byte: one space opens a number, and digits follow it. The open number is
+// kept apart from the earlier ones, so that the state of the loop stays in registers.
 ghost use mathlib.Core.Path.{_≡_};
 ghost use mathlib.Core.List.{foldl};
 ghost use Prim.Native.Nat.{_≤_};
 ghost use lib.ListN.{drop, set};
 ghost use Rattle.tape.specs.Lines.{numbersAfter};
-ghost use Rattle.tape.specs.Lines.{unread as Lines·unread, further as Lines·further};
+ghost use Rattle.tape.specs.Lines.{further as Lines·further};
 ghost use Rattle.tape.specs.Scanning.{stuck as Scanning·stuck, opened, lengthened, digit as Scanning·digit, step as Scanning·step, place as Scanning·place, begun, turn, finished as Scanning·finished};
 use crate::Line;
 use crate::MOST_NUMBERS;
@@ -22,13 +22,13 @@ pub struct Scan {
     pub value: u32,
 }
 
-// The same, with the numbers before the one that is open.
+// A scan, with the numbers before the open one.
 pub struct Reading {
     pub scan: Scan,
     pub numbers: [u32; 5],
 }
 
-// Something is wrong.
+// Marks the scan as failed.
 pub(crate) fn stuck(s: Scan) -> Scan
     ensures { λ r. ⌜ r ≡ Scanning·stuck s ⌝ }
 {
@@ -59,7 +59,7 @@ pub(crate) fn space(s: Scan) -> Scan
     }
 }
 
-// A number with one digit more.
+// The number with one more digit.
 pub(crate) fn further(n: u32, c: u8) -> u64
     requires { ⌜ (48 ≤ c) × (c ≤ 57) ⌝ }
     ensures { λ r. ⌜ r ≡ Lines·further n c ⌝ }
@@ -67,7 +67,7 @@ pub(crate) fn further(n: u32, c: u8) -> u64
     10 * n as u64 + (c - 48) as u64
 }
 
-// The number that is open becomes `value`, by one digit more.
+// Adds a digit to the open number, which becomes `value`.
 pub(crate) fn lengthen(s: Scan, value: u64) -> Scan
     ensures { λ r. ⌜ r ≡ lengthened s value ⌝ }
 {
@@ -86,7 +86,7 @@ pub(crate) fn lengthen(s: Scan, value: u64) -> Scan
     }
 }
 
-// Any other byte is a digit of the number that is open.
+// Takes a byte that is no space: it must be a digit of the open number.
 pub(crate) fn digit(s: Scan, c: u8) -> Scan
     ensures { λ r. ⌜ r ≡ Scanning·digit s c ⌝ }
 {
@@ -103,7 +103,7 @@ pub(crate) fn digit(s: Scan, c: u8) -> Scan
     lengthen(s, value)
 }
 
-// One byte more.
+// Takes the next byte.
 pub(crate) fn step(s: Scan, c: u8) -> Scan
     ensures { λ r. ⌜ r ≡ Scanning·step s c ⌝ }
 {
@@ -116,7 +116,7 @@ pub(crate) fn step(s: Scan, c: u8) -> Scan
     digit(s, c)
 }
 
-// Where a byte puts the number that is open: a space closes it. MOST_NUMBERS is nowhere.
+// Where a byte puts the open number: a space closes it; MOST_NUMBERS means nowhere.
 pub(crate) fn place(s: Scan, c: u8) -> usize
     ensures { λ r. ⌜ r ≡ Scanning·place s c ⌝ }
 {
@@ -130,7 +130,7 @@ pub(crate) fn place(s: Scan, c: u8) -> usize
     count - 1
 }
 
-// Puts a number into its place, where there is that place.
+// Puts a number into place `at`, if there is such a place.
 pub(crate) fn keep(numbers: &mut [u32], at: usize, value: u32)
     ensures { λ _. ⌜ now (numbers .exit) ≡ set (now (numbers .entry)) at value ⌝ }
 {
@@ -139,7 +139,7 @@ pub(crate) fn keep(numbers: &mut [u32], at: usize, value: u32)
     }
 }
 
-// All bytes behind the letter.
+// Scans all bytes after the letter.
 pub(crate) fn over(line: &[u8]) -> Reading
     ensures { λ r. ⌜ r ≡ foldl turn begun (drop 1 (now (line .entry))) ⌝ }
 {
@@ -177,33 +177,23 @@ pub(crate) fn numbers_after(letter: u8) -> usize
     }
 }
 
-// What cannot be read.
-pub(crate) fn unread() -> Line
-    ensures { λ r. ⌜ r ≡ Lines·unread ⌝ }
-{
-    Line {
-        letter: 0,
-        numbers: [0; 5],
-    }
-}
-
-// The line of that letter, where as many numbers follow it as are wanted, and some are.
+// The line of that letter, if exactly `want` numbers were read and `want` is not 0.
 pub(crate) fn finished(letter: u8, want: usize, r: Reading) -> Line
     ensures { λ x. ⌜ x ≡ Scanning·finished letter want r ⌝ }
 {
     let s = r.scan;
     let mut numbers = r.numbers;
     if !s.good {
-        return unread();
+        return crate::unread();
     }
     if want == 0 {
-        return unread();
+        return crate::unread();
     }
     if s.count != want {
-        return unread();
+        return crate::unread();
     }
     if s.digits == 0 {
-        return unread();
+        return crate::unread();
     }
     let at = place(s, 32);
     keep(&mut numbers, at, s.value);

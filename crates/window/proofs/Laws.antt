@@ -14,7 +14,7 @@ use Rattle.forms.specs.Choice.{if_then_else_}
 use Rattle.forms.proofs.Choice.{tests, if-true, if-false}
 use Rattle.forms.proofs.Promises.{agree}
 use Rattle.rules.specs.Stock.{Trade, total, oldest, figuresOf, staying}
-use Rattle.window.specs.Places.{trades, laid, Written, surveyOf, leftOf, goneOf, restOf}
+use Rattle.window.specs.Places.{trades, laid, Written, surveyOf, leftOf, goneOf, restOf, wiped}
 use Rattle.window.specs.Laws.{TradeInPlace, ReadBack, FreedAreZero, GoneAreTheRest, RestOfAWindow, Places, Laws}
 use Rattle.window.specs.declared.Change.{Change}
 use Rattle.window.proofs.Window.{length-trades, length-rest, times-of, total-parts}
@@ -143,5 +143,6 @@ laws = record {
   survey-determined = λ clock count times prices. agree (surveyOf clock count times prices);
   gone-determined = λ time count times. agree (goneOf time count times);
   rest-determined = λ gone f times prices. agree (restOf gone f times prices);
+  wipe-determined = λ xs. agree (wiped xs);
   write-determined = written-agree;
 }

@@ -10,7 +10,7 @@ use Rattle.forms.specs.Choice.{if_then_else_}
 use Rattle.forms.specs.Promises.{Determines}
 use Rattle.rules.specs.Stock.{Trade, figuresOf, staying}
 use Rattle.rules.specs.declared.Figures.{Figures}
-use Rattle.window.specs.Places.{trades, laid, Written, whole, surveyOf, goneOf, restOf}
+use Rattle.window.specs.Places.{trades, laid, Written, whole, surveyOf, goneOf, restOf, wiped}
 use Rattle.window.specs.declared.Change.{Change}
 use Rattle.window.specs.declared.Surveyed.{Surveyed}
 
@@ -18,22 +18,22 @@ use Rattle.window.specs.declared.Surveyed.{Surveyed}
 abbrev pub TradesCounted : Type 0
 TradesCounted = (n : ℕ) (times prices : List ℕ) → length (trades n times prices) ≡ n
 
--- trade j of them is in place j, its time in the one array and its price in the other
+-- trade j of the window is in place j, its time in the one array and its price in the other
 abbrev pub TradeInPlace : Type 0
 TradeInPlace = (n : ℕ) (times prices : List ℕ) (j : ℕ) (d : Trade) → j < n
     → getD (trades n times prices) j d ≡ record { at = getD times j 0; price = getD prices j 0 }
 
--- what is laid into places is read from them again, whatever stood there
+-- `trades` reads back what `laid` wrote, whatever the places held before
 abbrev pub ReadBack : Type 0
 ReadBack = (count : ℕ) (w : List Trade) (times prices : List ℕ)
     → trades (length w) (laid count (map (λ t. t .at) w) times) (laid count (map (λ t. t .price) w) prices) ≡ w
 
--- "A freed place becomes 0 and no other unused place is written": behind what is laid, a place that was used is 0, any other as it was
+-- after the written window, a place that was used is 0, and any other is as it was
 abbrev pub FreedAreZero : Type 0
 FreedAreZero = (count : ℕ) (front xs : List ℕ) (i : ℕ) → length front ≤ i
     → getD (laid count front xs) i 0 ≡ (if ltb i count then 0 else getD xs i 0)
 
--- the trades that stay at a time are those without the ones that are gone
+-- the trades that stay at a time are all but those that `goneOf` counts
 abbrev pub GoneAreTheRest : Type 0
 GoneAreTheRest = (time count : ℕ) (times prices : List ℕ) → count ≤ length times
     → staying time (trades count times prices) ≡ drop (goneOf time count times) (trades count times prices)
@@ -59,5 +59,6 @@ pub record Laws : Type 0 where
   pub survey-determined : (clock count : ℕ) (times prices : List ℕ) → Determines (λ (r : Surveyed). r ≡ surveyOf clock count times prices)
   pub gone-determined : (time count : ℕ) (times : List ℕ) → Determines (λ (r : ℕ). r ≡ goneOf time count times)
   pub rest-determined : (gone : ℕ) (f : Figures) (times prices : List ℕ) → Determines (λ (r : Figures). r ≡ restOf gone f times prices)
+  pub wipe-determined : (xs : List ℕ) → Determines (λ (ys : List ℕ). ys ≡ wiped xs)
   pub write-determined : (change : Change) (count : ℕ) (times prices : List ℕ)
       → Determines (λ (r : Places). Written change count times prices (r .times) (r .prices))

@@ -2,8 +2,10 @@
 // each are the window, the oldest trade first. No public function has a `requires`: definitions of
 // specs/Places.antt give each its result for every input, and every place at exit.
 ghost use mathlib.Core.Path.{_≡_};
-ghost use Rattle.window.specs.Places.{surveyOf, goneOf, restOf, Written};
+ghost use Rattle.window.specs.Places.{surveyOf, goneOf, restOf, wiped, Written};
 use rules::Figures;
+use rules::MOST_TRADES;
+use rules::PLACES;
 
 mod one;
 mod pass;
@@ -12,21 +14,21 @@ mod pass;
 pub enum Change {
     Stay,
     Join { time: u32, price: u32 },
-    // so many of the oldest
+    // the `gone` oldest trades leave
     Leave { gone: u32 },
     Empty,
     // the window is this trade alone
     Start { time: u32, price: u32 },
 }
 
-// The judgement of held trades; the figures are zeros where it is not sound.
+// The result of a survey; the figures are zeros where the trades are not sound.
 pub struct Surveyed {
     pub sound: bool,
     pub figures: Figures,
 }
 
-// Goes over the window once: sound where both parts have 512 places, no more trades are held, and none is
-// bad at the clock.
+// Validates and sums the window, in one pass over the times and two, rarely three, over the prices: it is sound where
+// both parts have 512 places, at most 512 trades are held, and none is bad at the clock.
 pub fn survey(clock: u32, count: u32, times: &[u32], prices: &[u32]) -> Surveyed
     ensures { λ r. ⌜ r ≡ surveyOf clock count (now (times .entry)) (now (prices .entry)) ⌝ }
 {
@@ -39,13 +41,13 @@ pub fn survey(clock: u32, count: u32, times: &[u32], prices: &[u32]) -> Surveyed
             sum: 0,
         },
     };
-    if times.len() != 512 {
+    if times.len() != PLACES {
         return none;
     }
-    if prices.len() != 512 {
+    if prices.len() != PLACES {
         return none;
     }
-    if 512 < n {
+    if PLACES < n {
         return none;
     }
     let late = pass::bad_times(clock, n, times);
@@ -73,8 +75,8 @@ pub fn gone(time: u32, count: u32, times: &[u32]) -> u32
     0
 }
 
-// The figures of the window without its `gone` oldest trades, from the figures `f` of all of them; zeros where
-// the parts have not 512 places, more trades are held, or the sum is less than that of the trades that left.
+// The figures of the window without its `gone` oldest trades, from the figures `f` of all of them; zeros where a
+// part does not have 512 places, more trades are held, or the sum is less than that of the trades that left.
 pub fn rest(gone: u32, f: Figures, times: &[u32], prices: &[u32]) -> Figures
     ensures { λ r. ⌜ r ≡ restOf gone f (now (times .entry)) (now (prices .entry)) ⌝ }
 {
@@ -83,14 +85,14 @@ pub fn rest(gone: u32, f: Figures, times: &[u32], prices: &[u32]) -> Figures
         oldest: 0,
         sum: 0,
     };
-    if times.len() != 512 {
+    if times.len() != PLACES {
         return none;
     }
-    if prices.len() != 512 {
+    if prices.len() != PLACES {
         return none;
     }
     let count = f.count;
-    if 512 < count {
+    if MOST_TRADES < count {
         return none;
     }
     if count <= gone {
@@ -108,8 +110,17 @@ pub fn rest(gone: u32, f: Figures, times: &[u32], prices: &[u32]) -> Figures
     }
 }
 
-// Writes the changed window to the front of each part: freed places become 0, and no other unused place is
-// written. A part without room for it stays as it is.
+// Sets every place to 0.
+pub fn wipe(xs: &mut [u32])
+    ensures { λ _. ⌜ now (xs .exit) ≡ wiped (now (xs .entry)) ⌝ }
+{
+    for i in 0..xs.len() {
+        xs[i] = 0;
+    }
+}
+
+// Writes the changed window to the front of each part, and zeros to the places that it frees; other unused places
+// keep their bytes. A part that is too short stays as it is.
 pub fn write(times: &mut [u32], prices: &mut [u32], count: u32, change: Change)
     ensures { λ _. ⌜ Written change count (now (times .entry)) (now (prices .entry)) (now (times .exit)) (now (prices .exit)) ⌝ }
 {

@@ -1,11 +1,11 @@
-// The places of one array, of which the first `n` are used.
+// Operations on the places of one array, of which the first `n` are in use.
 ghost use mathlib.Core.Path.{_≡_};
 ghost use mathlib.Core.List.{[], _∷_, _++_};
 ghost use Prim.Native.Nat.{_+_, _≤_};
-ghost use lib.ListN.{length, take, drop, replicate};
+ghost use lib.ListN.{length, take, drop};
 ghost use Rattle.window.specs.Places.{placed};
 
-// Puts `x` behind the used places, where there is one more.
+// Puts `x` after the used places, if there is one more place.
 pub(crate) fn join(xs: &mut [u32], n: usize, x: u32)
     ensures { λ _. ⌜ now (xs .exit) ≡ placed n (take n (now (xs .entry)) ++ (x ∷ [])) (now (xs .entry)) ⌝ }
 {
@@ -14,16 +14,7 @@ pub(crate) fn join(xs: &mut [u32], n: usize, x: u32)
     }
 }
 
-// Makes every place 0.
-pub(crate) fn zero(xs: &mut [u32])
-    ensures { λ _. ⌜ now (xs .exit) ≡ replicate (length (now (xs .entry))) 0 ⌝ }
-{
-    for i in 0..xs.len() {
-        xs[i] = 0;
-    }
-}
-
-// Moves `keep` places down by `gone`; what they leave stays there as well.
+// Copies `keep` places down by `gone`; all places from `keep` on keep their values.
 pub(crate) fn lower(xs: &mut [u32], gone: usize, keep: usize)
     requires { ⌜ gone + keep ≤ length (now xs) ⌝ }
     ensures { λ _. ⌜ now (xs .exit) ≡ take keep (drop gone (now (xs .entry))) ++ drop keep (now (xs .entry)) ⌝ }
@@ -33,17 +24,17 @@ pub(crate) fn lower(xs: &mut [u32], gone: usize, keep: usize)
     }
 }
 
-// Moves the used places down over the first `gone`, and makes the freed ones 0.
+// Moves the used places down over the first `gone`, and sets the freed ones to 0.
 pub(crate) fn slide(xs: &mut [u32], n: usize, gone: usize)
     requires { ⌜ (gone ≤ n) × (n ≤ length (now xs)) ⌝ }
     ensures { λ _. ⌜ now (xs .exit) ≡ placed n (drop gone (take n (now (xs .entry)))) (now (xs .entry)) ⌝ }
 {
     let keep = n - gone;
     lower(xs, gone, keep);
-    zero(&mut xs[keep..n]);
+    crate::wipe(&mut xs[keep..n]);
 }
 
-// The first `gone` leave, all where so many are not used.
+// Removes the first `gone`, or all where fewer are in use.
 pub(crate) fn leave(xs: &mut [u32], n: usize, gone: usize)
     ensures { λ _. ⌜ now (xs .exit) ≡ placed n (drop gone (take n (now (xs .entry)))) (now (xs .entry)) ⌝ }
 {
@@ -57,7 +48,7 @@ pub(crate) fn leave(xs: &mut [u32], n: usize, gone: usize)
     slide(xs, n, gone);
 }
 
-// Leaves `x` alone, in the first place.
+// Makes `x` the only one in use.
 pub(crate) fn start(xs: &mut [u32], n: usize, x: u32)
     ensures { λ _. ⌜ now (xs .exit) ≡ placed n (x ∷ []) (now (xs .entry)) ⌝ }
 {

@@ -1,5 +1,5 @@
-// Passes over the places of a window. Each loop's turn is plain arithmetic without a branch that leaves it, so
-// that the compiler makes it one of vectors; only `gone_in` ends at the first trade that stays.
+// Passes over the places of a window. Each loop body is branch-free arithmetic, so that the compiler vectorizes it;
+// only `gone_in` exits early, at the first trade that stays.
 ghost use mathlib.Core.Path.{_≡_};
 ghost use mathlib.Core.List.{foldl};
 ghost use Prim.Native.Nat.{_+_, _≤_};
@@ -7,6 +7,7 @@ ghost use lib.ListN.{length, getD, take};
 ghost use Rattle.window.specs.Places.{leftOf};
 ghost use Rattle.window.specs.Passes.{timesSeen, pricesBad};
 use rules::HIGHEST_PRICE;
+use rules::WINDOW;
 
 // Whether one of the first `n` times is after the clock or before the time ahead of it.
 pub(crate) fn bad_times(clock: u32, n: usize, times: &[u32]) -> bool
@@ -20,7 +21,7 @@ pub(crate) fn bad_times(clock: u32, n: usize, times: &[u32]) -> bool
     for i in 1..n {
         bad = bad | (times[i] < times[i - 1]);
     }
-    // of times in order the last is the latest
+    // where the times are in order, the last is the latest
     bad | (clock < times[n - 1])
 }
 
@@ -73,7 +74,7 @@ pub(crate) fn gone_in(time: u32, n: usize, times: &[u32]) -> usize
     let mut k: usize = 0;
     while k < n {
         let u = times[k] as u64;
-        if t < u + 300_000 {
+        if t < u + WINDOW {
             return k;
         }
         k += 1;
@@ -81,8 +82,8 @@ pub(crate) fn gone_in(time: u32, n: usize, times: &[u32]) -> usize
     k
 }
 
-// The sum of the first `n` prices; their halves of 16 bits are summed apart, so that a turn has no number of
-// 64 bits, of which a vector holds only half as many.
+// The sum of the first `n` prices; the loop sums their 16-bit halves apart, since a vector holds twice as many
+// 32-bit numbers as 64-bit ones.
 pub(crate) fn sum(n: usize, prices: &[u32]) -> u64
     requires { ⌜ (n ≤ 512) × (n ≤ length (now prices)) ⌝ }
     ensures { λ r. ⌜ r ≡ foldl _+_ 0 (take n (now (prices .entry))) ⌝ }

@@ -1,4 +1,4 @@
-//! The calls of the C interface, and how each is judged and done on the bytes.
+//! The calls of the C interface: how each is checked and done on the bytes.
 
 use second::{read, settle, tell, Answer, Message, Notice, Setup, Stock};
 
@@ -10,31 +10,32 @@ use crate::PLACES;
 const SETUP: usize = 4;
 const STOCKS_AT_MOST: usize = 64;
 
-/// The three arrays that a call is lent.
+/// The three arrays that a call gets.
 pub struct Lent<'a> {
     pub records: &'a mut [[u32; WORDS]],
     pub times: &'a mut [u32],
     pub prices: &'a mut [u32],
 }
 
-/// One call with what it names beside the arrays.
+/// One call, with its arguments after the arrays.
 #[derive(Clone, Debug)]
 pub enum Call {
     Setup { end: u32, setups: Vec<u32> },
     Settle { stock: u32, time: u32 },
     Read { stock: u32 },
+    Next { stock: u32 },
     Tell(Message),
 }
 
-/// What a call gives back: mark and time are 0 where no moment was done.
+/// What a call returns. Mark and time are 0 if no moment was done, or none is to come. For `next`, only the number of the answer is set.
 #[derive(Clone, Copy, Debug, Default, PartialEq, Eq)]
 pub struct Given {
     pub answer: Answer,
     pub mark: u32,
-    pub time: u64,
+    pub time: u32,
 }
 
-/// Plays one call; every answer but 0 leaves all bytes as they stood.
+/// Plays one call. A call with a number other than 0 changes no byte.
 pub fn play(lent: &mut Lent, call: &Call) -> Given {
     if !has_right_shape(lent) {
         return zeros(1);
@@ -45,6 +46,7 @@ pub fn play(lent: &mut Lent, call: &Call) -> Given {
             on_stock(lent, stock, |book| noticed(settle(book, 0, time)))
         }
         Call::Read { stock } => on_stock(lent, stock, |book| answered(read(book, 0))),
+        Call::Next { stock } => on_stock(lent, stock, |book| next(book)),
         Call::Tell(message) => on_stock(lent, message.stock, |book| {
             answered(tell(
                 book,
@@ -65,7 +67,7 @@ fn has_right_shape(lent: &Lent) -> bool {
         && lent.prices.len() == places
 }
 
-/// Starts the whole book: every byte of the three arrays is written.
+/// Sets up the whole book: writes every byte of the three arrays.
 fn set_up(lent: &mut Lent, end: u32, numbers: &[u32]) -> Given {
     if numbers.len() != SETUP * lent.records.len() {
         return zeros(1);
@@ -82,7 +84,7 @@ fn set_up(lent: &mut Lent, end: u32, numbers: &[u32]) -> Given {
     zeros(0)
 }
 
-/// Reads the one stock's bytes, plays the call on it and writes it back if that was accepted.
+/// Reads the stock's bytes, plays the call on the stock, and writes it back if the call was accepted.
 fn on_stock(lent: &mut Lent, stock: u32, judge: impl Fn(&mut [Stock]) -> Given) -> Given {
     let index = stock as usize;
     if index >= lent.records.len() {
@@ -105,11 +107,24 @@ fn on_stock(lent: &mut Lent, stock: u32, judge: impl Fn(&mut [Stock]) -> Given) 
     given
 }
 
+/// The earliest moment still to come of the only stock in a book, with the number that reading the stock answers.
+fn next(book: &[Stock]) -> Given {
+    let given = zeros(read(book, 0).number);
+    match book[0].moments().first() {
+        Some(&(mark, time)) if given.answer.number == 0 => Given {
+            mark: u32::from(mark),
+            time,
+            ..given
+        },
+        _ => given,
+    }
+}
+
 fn noticed(notice: Notice) -> Given {
     Given {
         answer: notice.answer,
         mark: u32::from(notice.mark),
-        time: u64::from(notice.time),
+        time: notice.time,
     }
 }
 
@@ -120,7 +135,7 @@ fn answered(answer: Answer) -> Given {
     }
 }
 
-/// This number with zeros beside it.
+/// This number, with all other fields 0.
 fn zeros(number: u32) -> Given {
     answered(Answer {
         number,

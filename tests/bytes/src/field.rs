@@ -1,4 +1,4 @@
-//! Where each field stands among a record's numbers.
+//! The index of each field among a record's numbers.
 
 /// A record is this many numbers.
 pub const WORDS: usize = 46;

@@ -1,7 +1,7 @@
-//! Plays every call of the C interface on a book's bytes, written from docs/RECORD.md.
+//! Plays every call of the C interface on a book's bytes, as docs/RECORD.md describes them.
 //!
-//! `record` reads one stock's bytes into a stock of the second implementation and writes a changed
-//! one back; `call` checks the shapes and lets the second implementation judge and do the call.
+//! `record` converts one stock's bytes to a stock of the second implementation and writes a changed
+//! one back; `call` checks the shapes and lets the second implementation check and do the call.
 
 #![forbid(unsafe_code)]
 

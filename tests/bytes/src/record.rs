@@ -13,7 +13,7 @@ pub(crate) struct Part<'a> {
 }
 
 impl Part<'_> {
-    /// The stock that the bytes hold, or none when more trades are counted than there are places.
+    /// The stock that the bytes hold, or none if the record counts more trades than there are places.
     pub fn read(&self) -> Option<Stock> {
         let record = &self.record;
         let count = record[COUNT] as usize;
@@ -46,7 +46,7 @@ impl Part<'_> {
         held.map(|(&time, &price)| Trade { time, price }).collect()
     }
 
-    /// Writes what an accepted call made of the stock that was read.
+    /// Writes the stock's bytes after an accepted call.
     pub fn write(&mut self, before: &Stock, after: &Stock) {
         let record = &mut self.record;
         record[STATE] = after.state;
@@ -65,7 +65,7 @@ impl Part<'_> {
         self.write_trades(before.trades.len(), &after.trades);
     }
 
-    /// Freed places become 0, and no other unused place is written.
+    /// Writes the held trades, and zeroes the places that were freed. Other unused places are left alone.
     fn write_trades(&mut self, held_before: usize, trades: &[Trade]) {
         for (place, trade) in trades.iter().enumerate() {
             self.times[place] = trade.time;
@@ -100,7 +100,7 @@ pub(crate) fn start(setup: &Setup, end: u32) -> [u32; WORDS] {
     record
 }
 
-/// The marker `hold` after a call: 0 at h, 1 where the start was written, and else as it stood.
+/// The marker `hold` after a call: 0 if h happened, 1 if the start was written, and otherwise unchanged.
 fn hold(stood: u32, before: &Stock, after: &Stock) -> u32 {
     if after.hold_ended != 0 {
         0
@@ -111,11 +111,12 @@ fn hold(stood: u32, before: &Stock, after: &Stock) -> u32 {
     }
 }
 
-/// Whether the reference's start was written, while its hold had not ended before the call.
+/// Whether a call wrote the reference's start, if the hold had not ended before the call.
 ///
-/// From Trading that is only by h and its Test, 30,000 after the old start. From Limit it is by
-/// leaving it, and with the same entry and reference the same bands come, so that Limit cannot
-/// begin afresh. From other states each way into Trading or Limit writes it.
+/// In Trading only h and its Test write it, 30,000 after the old start. In Limit, leaving Limit
+/// writes it; if Limit begins again in the same call, its entry or the reference differs, since the
+/// same entry and reference give the same bands. In the other states, every change to Trading or
+/// Limit writes it.
 fn starts_anew(before: &Stock, after: &Stock) -> bool {
     let kept = |stock: &Stock| (stock.state, stock.limit_entry, stock.reference);
     match before.state {

@@ -1,4 +1,4 @@
-//! Document 01's day on bytes, setup, refusals that leave all bytes, and a few rubbish records.
+//! Document 01's day on bytes, setup, refusals that change no byte, and a few rubbish records.
 
 use bytes::field::*;
 use bytes::{play, Call, Given, Lent, PLACES, WORDS};
@@ -15,7 +15,7 @@ struct Book {
 }
 
 impl Book {
-    /// A book of this many stocks with the same number everywhere.
+    /// A book of this many stocks, with this number in every word.
     fn filled(stocks: usize, number: u32) -> Book {
         Book {
             records: vec![[number; WORDS]; stocks],
@@ -53,7 +53,7 @@ impl Book {
         self.play(&Call::Settle { stock: 0, time })
     }
 
-    /// Settles as far as this time and then tells the message.
+    /// Settles to this time and then tells the message.
     fn settle_and_tell(&mut self, letter: Letter, time: u32, rest: [u32; 3]) -> Given {
         while self.settle(time).answer.number == 0 {}
         self.tell(letter, time, rest)
@@ -78,7 +78,7 @@ fn message(letter: Letter, time: u32, rest: [u32; 3]) -> Call {
 }
 
 /// What document 01's day prints: mark or letter, time, and the nine numbers of the answer.
-fn line(mark: u32, time: u64, given: &Given) -> String {
+fn line(mark: u32, time: u32, given: &Given) -> String {
     let a = &given.answer;
     let numbers = [
         a.number,
@@ -133,7 +133,7 @@ fn the_day_of_document_01() {
             printed.push(line(given.mark, given.time, &given));
         }
         let given = book.tell(letter, time, rest);
-        printed.push(line(u32::from(letter.byte()), u64::from(time), &given));
+        printed.push(line(u32::from(letter.byte()), time, &given));
     }
     assert_eq!(printed, PRINTED);
     let mut record = [0; WORDS];
@@ -214,10 +214,13 @@ fn a_refusal_leaves_all_bytes() {
     assert_eq!(book.settle(30_999).answer.number, 14);
     assert_eq!(book.play(&Call::Read { stock: 1 }).answer.number, 3);
     assert_eq!(book.play(&Call::Read { stock: 0 }).answer.number, 0);
+    assert_eq!(book.play(&Call::Next { stock: 1 }).answer.number, 3);
+    let next = book.play(&Call::Next { stock: 0 });
+    assert_eq!((next.mark, next.time), (u32::from(b'h'), 31_000));
     assert_eq!(book, before);
 }
 
-/// A Trading stock with three trades, markers other than 0 and 1 and unused places in use.
+/// A Trading stock with three trades, markers other than 0 and 1, and unused places that are not 0.
 fn odd() -> Book {
     let mut book = Book::started();
     book.settle_and_tell(Letter::O, 1_000, [2, 115_000, 0]);

@@ -8,7 +8,7 @@ use crate::book::{Book, Snapshot};
 use crate::prices::HIGHEST;
 use crate::Run;
 
-/// Of each state so many records.
+/// How many records of each state are used.
 const RECORDS: usize = 8;
 const PARTICIPANTS: [u32; 5] = [0, 15, 16, 17, u32::MAX];
 const PRICES: [u32; 6] = [0, 1, HIGHEST, HIGHEST + 1, 1 << 31, u32::MAX];

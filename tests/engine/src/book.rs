@@ -1,4 +1,4 @@
-//! A book kept twice, once for the library and once for the byte reader.
+//! A book in two copies, one for the library and one for the byte reader.
 
 use bytes::{play, Call, Given, Lent, PLACES, WORDS};
 
@@ -6,10 +6,10 @@ use crate::library::{self, Arrays};
 use crate::report;
 use crate::tally::Tally;
 
-/// What stands before and behind each array, room for one stock each; none of it may ever change.
+/// Fills the guards before and behind each array, each as large as one stock's part. No guard may ever change.
 const GUARD_WORD: u32 = 0xa5a5_5a5a;
 
-/// The three lengths that a call is lent.
+/// The three lengths that a call gets.
 #[derive(Clone, Copy, Debug, PartialEq, Eq)]
 pub struct Shape {
     pub stocks: usize,
@@ -35,7 +35,7 @@ pub struct Snapshot {
     pub prices: [u32; PLACES],
 }
 
-/// The three arrays, stock by stock, each between its guards: stock i stands at 1 + i.
+/// The three arrays, stock by stock, each between its guards: stock i is at index 1 + i.
 #[derive(Clone, PartialEq, Eq)]
 pub struct Memory {
     pub records: Vec<[u32; WORDS]>,
@@ -68,7 +68,7 @@ impl Memory {
         }
     }
 
-    /// The arrays as the library takes them; a length of 0 still has a pointer into its array.
+    /// The arrays as the library takes them. An array of length 0 still gets a valid pointer.
     fn arrays(&mut self, shape: Shape) -> Arrays {
         Arrays {
             book: self.records[1..].as_mut_ptr().cast(),
@@ -102,13 +102,13 @@ impl Book {
         self.play_shaped(tally, Shape::right(self.stocks), call)
     }
 
-    /// Plays the call on both sides and compares what they give back and every byte.
+    /// Plays the call on both sides, and compares the results and every byte.
     pub fn play_shaped(&mut self, tally: &mut Tally, shape: Shape, call: &Call) -> Given {
         let room = Shape::right(self.stocks);
         assert!(shape.stocks <= room.stocks);
         assert!(shape.times <= room.times && shape.prices <= room.prices);
         let expected = play(&mut self.reader.lent(shape), call);
-        // SAFETY: the three vectors are apart, and the shape is within the room of each.
+        // SAFETY: the three vectors do not overlap, and each is at least as long as the shape says.
         let given = unsafe { library::play(self.library.arrays(shape), call) };
         let good_shape = shape.stocks > 0 && shape == Shape::right(shape.stocks);
         tally.count(call, &expected, good_shape);

@@ -1,4 +1,4 @@
-//! Ways to break a record: numbers at the edges of the rules, any numbers, whole random records.
+//! Ways to break a record: numbers at the edges of the rules, random numbers, whole random records.
 
 use bytes::field::*;
 use bytes::{PLACES, WORDS};
@@ -9,7 +9,7 @@ use crate::chance::Chance;
 use crate::prices::HIGHEST;
 use crate::setups;
 
-/// Numbers at which a range of some field ends, or just past it.
+/// Numbers at the end of some field's range, or just past it.
 const EDGES: [u32; 27] = [
     0,
     1,
@@ -40,7 +40,7 @@ const EDGES: [u32; 27] = [
     u32::MAX,
 ];
 
-/// How far before the clock a kept time may lie, and no further.
+/// The greatest allowed distances of stored times before the clock.
 const LEADS: [u32; 5] = [0, 15_000, 30_000, 300_000, 600_000];
 
 /// Numbers to put into this word of a record.
@@ -54,7 +54,7 @@ pub fn numbers(record: &[u32; WORDS], word: usize) -> Vec<u32> {
     numbers
 }
 
-/// The edges of all ranges, those that depend on the session's end and on the clock too.
+/// The edges of all ranges, including those that depend on the session's end and on the clock.
 fn edges(record: &[u32; WORDS]) -> Vec<u32> {
     let mut edges = EDGES.to_vec();
     let end = record[END];
@@ -76,7 +76,7 @@ fn beside(number: u32) -> [u32; 3] {
     [number.wrapping_sub(1), number, number.wrapping_add(1)]
 }
 
-/// Puts another number into one word, the quotes as often as one other field.
+/// Puts another number into one word. All quotes together are chosen as often as one other field.
 pub fn break_word(chance: &mut Chance, snapshot: &mut Snapshot) {
     let word = match chance.place(BIDS + 2) {
         BIDS => BIDS + chance.place(COUNT - BIDS),
@@ -91,7 +91,7 @@ pub fn break_word(chance: &mut Chance, snapshot: &mut Snapshot) {
     snapshot.record[word] = number;
 }
 
-/// Puts another number into one of the 512 places, mostly one that is in use or just behind.
+/// Puts another number into one of the 512 places, mostly one that is in use or just behind those.
 pub fn break_place(chance: &mut Chance, snapshot: &mut Snapshot) {
     let count = (snapshot.record[COUNT] as usize).min(PLACES - 1);
     let place = match chance.below(8) {
@@ -110,7 +110,7 @@ pub fn break_place(chance: &mut Chance, snapshot: &mut Snapshot) {
     }
 }
 
-/// A time at an edge of what the trade at this place may have.
+/// A time at an edge of the range for the trade at this place.
 fn time_beside(chance: &mut Chance, snapshot: &Snapshot, place: usize) -> u32 {
     match chance.below(4) {
         0 => chance.pick(&edges(&snapshot.record)),
@@ -120,14 +120,14 @@ fn time_beside(chance: &mut Chance, snapshot: &Snapshot, place: usize) -> u32 {
     }
 }
 
-/// Any numbers in the places that are not in use, which is no rubbish.
+/// Puts random numbers into the unused places, which does not make the record rubbish.
 pub fn litter(chance: &mut Chance, snapshot: &mut Snapshot) {
     let count = (snapshot.record[COUNT] as usize).min(PLACES);
     snapshot.times[count..].fill_with(|| chance.any());
     snapshot.prices[count..].fill_with(|| chance.any());
 }
 
-/// Any bytes at all.
+/// Random bytes.
 pub fn any(chance: &mut Chance) -> Snapshot {
     Snapshot {
         record: std::array::from_fn(|_| chance.any()),
@@ -136,7 +136,7 @@ pub fn any(chance: &mut Chance) -> Snapshot {
     }
 }
 
-/// Good fields that need not fit each other, so that some of these records are rubbish.
+/// Fields that are each in range but may contradict each other, so that some of these records are rubbish.
 pub fn made_up(chance: &mut Chance) -> Snapshot {
     let mut made = any(chance);
     let record = &mut made.record;
@@ -175,7 +175,7 @@ pub fn odd_limit(chance: &mut Chance) -> Snapshot {
     odd
 }
 
-/// Moments that mostly fall on one time, which is given too; in no day do some of them tie.
+/// A record most of whose moments are at one time, and that time. Some of these ties never occur in a day.
 pub fn tied(chance: &mut Chance) -> (Snapshot, u32) {
     let mut tied = made_up(chance);
     let record = &mut tied.record;
@@ -199,7 +199,7 @@ pub fn tied(chance: &mut Chance) -> (Snapshot, u32) {
     (tied, target)
 }
 
-/// Often a little after a change of k, so that Limit may have begun before it.
+/// A clock that is often a little after a change of k, so that Limit may have begun before the change.
 fn made_up_clock(chance: &mut Chance, end: u32) -> u32 {
     match chance.below(4) {
         0 => 900_000 + chance.below(15_000),

@@ -37,7 +37,7 @@ impl Chance {
         self.below(n) == 0
     }
 
-    /// A place of a list of this length, which is not 0.
+    /// An index of a list of this length, which is not 0.
     pub fn place(&mut self, length: usize) -> usize {
         self.below(length as u32) as usize
     }
@@ -47,13 +47,13 @@ impl Chance {
         list[self.place(list.len())]
     }
 
-    /// A place of a list of this length, each one half as often as the one before it.
+    /// An index of a list of this length, each half as likely as the one before it.
     pub fn early(&mut self, length: usize) -> usize {
         let place = self.next().trailing_zeros() as usize;
         place.min(length - 1)
     }
 
-    /// This number or one beside it.
+    /// This number, or one next to it.
     pub fn about(&mut self, number: u32) -> u32 {
         number.saturating_add(self.below(3)).saturating_sub(1)
     }

@@ -15,7 +15,7 @@ pub struct Arrays {
     pub prices_length: usize,
 }
 
-/// Hands the arrays on before the other arguments.
+/// Passes the arrays before the other arguments.
 macro_rules! lend {
     ($function:ident, $a:expr $(, $argument:expr)*) => {
         raw::$function(
@@ -29,7 +29,7 @@ macro_rules! lend {
 ///
 /// # Safety
 ///
-/// The pointers are not null, aligned, good for their lengths, and no two arrays overlap.
+/// The pointers must be aligned, not null and valid for their lengths, and no two arrays may overlap.
 pub unsafe fn play(a: Arrays, call: &Call) -> Numbers {
     match *call {
         Call::Setup { end, ref setups } => answered(lend!(
@@ -41,9 +41,10 @@ pub unsafe fn play(a: Arrays, call: &Call) -> Numbers {
         )),
         Call::Settle { stock, time } => {
             let notice = lend!(sumpheron_settle, a, stock, time);
-            noticed(notice.answer, notice.moment)
+            noticed(notice.answer, notice.mark, notice.time)
         }
         Call::Read { stock } => answered(lend!(sumpheron_read, a, stock)),
+        Call::Next { stock } => upcoming(lend!(sumpheron_next, a, stock)),
         Call::Tell(ref message) => answered(tell(a, message)),
     }
 }
@@ -60,41 +61,47 @@ unsafe fn tell(a: Arrays, m: &Message) -> raw::Answer {
     }
 }
 
-/// What a call gives back, number by number: the answer's nine, then the moment's mark and time.
-pub type Numbers = [u64; 11];
+/// The result of a call, number by number: the answer's nine, then the moment's mark and time.
+pub type Numbers = [u32; 11];
 
-/// What the byte reader gives back, in the same order.
+/// The result of the byte reader, in the same order.
 pub fn numbers(given: &Given) -> Numbers {
     let a = &given.answer;
-    let [number, state, reference] = [a.number, a.state, a.reference].map(u64::from);
-    let [lower, upper, mark] = [a.lower, a.upper, given.mark].map(u64::from);
-    let [bid, bid_flag, offer, offer_flag] =
-        [a.bid, a.bid_flag, a.offer, a.offer_flag].map(u64::from);
     [
-        number, state, reference, lower, upper, bid, bid_flag, offer, offer_flag, mark, given.time,
+        a.number,
+        a.state,
+        a.reference,
+        a.lower,
+        a.upper,
+        a.bid,
+        a.bid_flag,
+        a.offer,
+        a.offer_flag,
+        given.mark,
+        given.time,
     ]
 }
 
-fn noticed(a: raw::Answer, moment: raw::Moment) -> Numbers {
-    let [number, state, reference] = [a.number, a.state, a.reference].map(u64::from);
-    let [bid, bid_flag, offer, offer_flag] =
-        [a.bid, a.bid_flag, a.offer, a.offer_flag].map(u64::from);
-    let mark = u64::from(moment.mark);
+fn noticed(a: raw::Answer, mark: u32, time: u32) -> Numbers {
     [
-        number,
-        state,
-        reference,
+        a.number,
+        a.state,
+        a.reference,
         a.lower,
         a.upper,
-        bid,
-        bid_flag,
-        offer,
-        offer_flag,
+        a.bid,
+        a.bid_flag,
+        a.offer,
+        a.offer_flag,
         mark,
-        moment.time,
+        time,
     ]
+}
+
+fn upcoming(u: raw::Upcoming) -> Numbers {
+    [u.number, 0, 0, 0, 0, 0, 0, 0, 0, u.mark, u.time]
 }
 
 fn answered(answer: raw::Answer) -> Numbers {
-    noticed(answer, raw::Moment::default())
+    noticed(answer, 0, 0)
 }

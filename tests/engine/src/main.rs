@@ -1,6 +1,6 @@
-//! Calls the library and the byte reader side by side on many books and compares what each call
-//! gives back and every byte it leaves. A seed may be named; without one it is always the same.
-//! tests/engine/run starts it, and says whether enough was called.
+//! Differential test: makes the same calls on the library and on the byte reader, on many books, and
+//! compares each result and every byte. A seed may be named; the default seed is fixed.
+//! tests/engine/run starts it, and checks that enough calls were made.
 
 mod arguments;
 mod book;
@@ -23,15 +23,18 @@ use chance::Chance;
 use pool::Pool;
 use tally::Tally;
 
-/// What all parts of the test share.
+/// The state that all parts of the test share.
 pub struct Run {
     pub chance: Chance,
     pub tally: Tally,
     pub pool: Pool,
 }
 
-/// The kinds of book that are played; those of the last two are made of what is reached before.
-const PARTS: [(&str, fn(&mut Run)); 4] = [
+/// A kind of book, and the function that plays it.
+type Part = (&'static str, fn(&mut Run));
+
+/// The kinds of book, in the order of play. The last two start from records that the earlier ones reached.
+const PARTS: [Part; 4] = [
     ("shapes", shapes::all),
     ("reachable", player::all),
     ("arguments", arguments::all),

@@ -1,4 +1,4 @@
-//! Plays sensible calls on a book, aimed at states and times where the rules turn.
+//! Plays sensible calls on a book, aimed at states and times at which the rules change.
 
 use bytes::field::*;
 use bytes::{Call, Given, Lent, PLACES};
@@ -10,7 +10,7 @@ use crate::{setups, times, Run};
 
 const BOOKS: usize = 1_500;
 
-/// For each state the messages to choose from.
+/// The messages to choose from in each state.
 const LETTERS: [&[u8]; 6] = [
     b"TTTTTTQQQOOPRX",
     b"TTTTTTTQQQQQQPPORX",
@@ -20,7 +20,7 @@ const LETTERS: [&[u8]; 6] = [
     b"TQOPRX",
 ];
 
-/// Settling does at most this many moments before it is given up.
+/// Settling stops after this many moments.
 const MOMENTS_AT_MOST: usize = 2_000;
 
 /// Plays many books from their setups on.
@@ -93,6 +93,14 @@ impl<'a> Player<'a> {
         self.play(stock, &call);
     }
 
+    /// Asks for the next moment. The result has no stock's values, so the last answer is kept.
+    pub fn next(&mut self, stock: usize) {
+        let call = Call::Next {
+            stock: stock as u32,
+        };
+        self.book.play(&mut self.run.tally, &call);
+    }
+
     pub fn settle_once(&mut self, stock: usize, time: u32) -> Given {
         let call = Call::Settle {
             stock: stock as u32,
@@ -112,6 +120,7 @@ impl<'a> Player<'a> {
 
     /// Mostly settles all, sometimes one moment or none.
     fn settle(&mut self, stock: usize, time: u32) {
+        self.next(stock);
         match self.run.chance.below(24) {
             0 => {}
             1 => {
@@ -125,7 +134,7 @@ impl<'a> Player<'a> {
         }
     }
 
-    /// One thing that happens to the stock: a few calls.
+    /// Makes a few calls on the stock, for one event.
     pub fn step(&mut self, stock: usize) {
         match self.run.chance.below(1_200) {
             0 => self.burst(stock),
@@ -265,7 +274,7 @@ impl<'a> Player<'a> {
         self.tell(stock, Letter::P, time);
     }
 
-    /// Brings about a pause that is late or just not.
+    /// Starts a pause that is just late or just not late.
     fn pause_late(&mut self, stock: usize) {
         let by_limit = self.run.chance.one_in(2);
         let end = self.book.record(stock)[END];

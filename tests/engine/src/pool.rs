@@ -1,4 +1,4 @@
-//! Good records in all six states, taken from the books that were played.
+//! Valid records in all six states, taken from the books that were played.
 
 use bytes::field::STATE;
 
@@ -14,7 +14,7 @@ pub struct Pool {
 }
 
 impl Pool {
-    /// Keeps the record, now and then in the place of an older one.
+    /// Keeps the record; sometimes it replaces an older one.
     pub fn offer(&mut self, chance: &mut Chance, snapshot: Snapshot) {
         let kept = &mut self.states[snapshot.record[STATE] as usize];
         if kept.len() < PER_STATE {
@@ -24,13 +24,13 @@ impl Pool {
         }
     }
 
-    /// A record of any state, each state as often as the others.
+    /// A random record; every state is equally likely.
     pub fn pick(&self, chance: &mut Chance) -> Snapshot {
         let kept = &self.states[chance.place(self.states.len())];
         kept[chance.place(kept.len())].clone()
     }
 
-    /// The first records of each state, at most so many of each.
+    /// The first records of each state, at most this many of each.
     pub fn some(&self, of_each: usize) -> Vec<Snapshot> {
         let some = self
             .states

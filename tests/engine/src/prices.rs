@@ -1,4 +1,4 @@
-//! Prices worth trying: at the bands and beside them, and at the edge of the one percent test.
+//! Prices to test with: at the bands and next to them, and at the edge of the one percent test.
 
 use second::Answer;
 
@@ -6,7 +6,7 @@ use crate::chance::Chance;
 
 pub const HIGHEST: u32 = 999_999_999;
 
-/// What a price is chosen by: the stock's last answer, its close and its window.
+/// What the choice of a price depends on: the stock's last answer, its close and its window.
 pub struct Sight {
     pub answer: Answer,
     pub close: u32,
@@ -37,12 +37,12 @@ fn below_or_at(chance: &mut Chance, price: u32) -> u32 {
     price.saturating_sub(chance.below(2))
 }
 
-/// Absent, the range's edges and past them.
+/// 0, which is absent, and prices at and past the edges of the range.
 fn extreme(chance: &mut Chance) -> u32 {
     chance.pick(&[0, 1, 2, 100, HIGHEST, HIGHEST + 1, u32::MAX])
 }
 
-/// Before the first reference and in a pause prices stay about the close or the reference.
+/// A price near the close or the reference, for use before the first reference and in a pause.
 fn without_bands(chance: &mut Chance, sight: &Sight) -> u32 {
     let middle = match sight.answer.reference {
         0 => sight.close,
@@ -59,13 +59,13 @@ fn without_bands(chance: &mut Chance, sight: &Sight) -> u32 {
     }
 }
 
-/// The trade after which the mean just is, or just is not, one percent away.
+/// The price of a trade after which the mean is just, or just not, one percent away.
 fn edge_of_test(chance: &mut Chance, sight: &Sight) -> u32 {
     let count = i64::from(sight.count) + 1;
     let reference = i64::from(sight.answer.reference);
     let far = i64::from(sight.answer.reference.div_ceil(100));
     let short = i64::from(chance.one_in(2));
-    // Of (2s + c) / 2c, dropping the rest, the least s that gives the mean, and the most.
+    // The mean of sum s and count c is (2s + c) / 2c, rounded down: the least and the greatest s that give this mean.
     let sum = if chance.one_in(2) {
         (2 * count * (reference + far) - count + 1).div_euclid(2) - short
     } else {

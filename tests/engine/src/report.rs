@@ -1,4 +1,4 @@
-//! What is printed of a difference.
+//! Prints a difference.
 
 use bytes::{field, Call};
 
@@ -8,7 +8,7 @@ use crate::library::Numbers;
 /// At most this many differing words are printed of one call.
 const WORDS_AT_MOST: usize = 10;
 
-/// What the numbers of an answer are.
+/// The names of an answer's numbers.
 const ANSWER: &str = "number state reference lower upper bid flag offer flag mark time";
 
 /// Prints the call and both answers.

@@ -9,7 +9,7 @@ use crate::breaks;
 use crate::player::Player;
 use crate::Run;
 
-/// Of each state so many records are broken word by word, and each pair of words.
+/// How many records of each state are broken word by word, and in each pair of words.
 const RECORDS: usize = 6;
 const BROKEN_WORDS: usize = 40_000;
 const BROKEN_PLACES: usize = 20_000;
@@ -17,7 +17,7 @@ const MADE_UP: usize = 40_000;
 const ODD_LIMITS: usize = 5_000;
 const TIED: usize = 20_000;
 const ANY_BYTES: usize = 2_000;
-/// After a break the player goes on for so many steps.
+/// How many steps the player takes after a break.
 const WALK: usize = 6;
 
 pub fn all(run: &mut Run) {
@@ -29,7 +29,7 @@ pub fn all(run: &mut Run) {
     made_up(run);
 }
 
-/// Good records, broken at random.
+/// Valid records, broken at random.
 fn broken(run: &mut Run) {
     for _ in 0..BROKEN_WORDS {
         let mut broken = run.pool.pick(&mut run.chance);
@@ -45,7 +45,7 @@ fn broken(run: &mut Run) {
     }
 }
 
-/// Records that come from no book.
+/// Records that were never in a book.
 fn made_up(run: &mut Run) {
     for _ in 0..MADE_UP {
         let mut made = breaks::made_up(&mut run.chance);
@@ -101,10 +101,11 @@ fn pair_by_pair(run: &mut Run, good: &Snapshot) {
     }
 }
 
-/// Every kind of call but setup on this record, as it stands.
+/// Makes every kind of call but setup on this record.
 fn try_all(player: &mut Player, stock: usize, broken: &Snapshot) {
     player.book.put(stock, broken);
     player.read(stock);
+    player.next(stock);
     let time = player.time(stock);
     if player.settle_once(stock, time).answer.number == 0 {
         player.book.put(stock, broken);
@@ -117,7 +118,7 @@ fn try_all(player: &mut Player, stock: usize, broken: &Snapshot) {
     }
 }
 
-/// Quotes in the millisecond of the clock, some of which end Limit and begin it again.
+/// Makes quotes in the millisecond of the clock; some of them end Limit and begin it again.
 fn quotes_now(run: &mut Run, odd: &Snapshot) {
     let mut book = Book::new(1);
     book.put(0, odd);
@@ -137,7 +138,7 @@ fn settle_to(run: &mut Run, tied: &Snapshot, target: u32) {
     player.step(0);
 }
 
-/// Every kind of call on this record beside others of any bytes, and then a few steps from it.
+/// Makes every kind of call on this record, with records of random bytes around it, and then takes a few steps.
 fn try_and_walk(run: &mut Run, mut broken: Snapshot) {
     if run.chance.one_in(4) {
         breaks::litter(&mut run.chance, &mut broken);

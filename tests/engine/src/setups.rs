@@ -6,7 +6,7 @@ use crate::prices::HIGHEST;
 pub const SHORTEST: u32 = 3_600_000;
 pub const LONGEST: u32 = 23_400_000;
 
-/// A session's end: most sessions are short, so that their ends are reached.
+/// A session's end. Most sessions are short, so that the test reaches their ends.
 pub fn end(chance: &mut Chance) -> u32 {
     match chance.below(8) {
         0 => LONGEST - chance.below(2),
@@ -16,7 +16,7 @@ pub fn end(chance: &mut Chance) -> u32 {
     }
 }
 
-/// A list with a good setup for each of so many stocks.
+/// A list with a valid setup for each of this many stocks.
 pub fn list(chance: &mut Chance, stocks: usize) -> Vec<u32> {
     (0..stocks).flat_map(|_| one(chance)).collect()
 }
@@ -28,7 +28,7 @@ pub fn one(chance: &mut Chance) -> [u32; 4] {
     [tier, leverage, chance.below(16), close(chance)]
 }
 
-/// A close, many of them at or beside a bound of the percents.
+/// A close, often at or next to a limit between two percents.
 fn close(chance: &mut Chance) -> u32 {
     match chance.below(8) {
         0 => chance.pick(&[1, 2, 28, 1_000]),

@@ -1,4 +1,4 @@
-//! Arrays and lists of wrong length, stock numbers too large, and setups out of range.
+//! Arrays and lists of the wrong length, stock numbers that are too large, and setups out of range.
 
 use bytes::Call;
 use second::{Letter, Message};
@@ -9,7 +9,7 @@ use crate::prices::HIGHEST;
 use crate::setups::{self, LONGEST, SHORTEST};
 use crate::Run;
 
-/// There is room for this many stocks, so that arrays may be longer than a book of 65 needs.
+/// The arrays have room for this many stocks, so that a length may exceed what a book of 65 needs.
 const ROOM: usize = 66;
 
 pub fn all(run: &mut Run) {
@@ -30,7 +30,7 @@ pub fn all(run: &mut Run) {
     }
 }
 
-/// Any bytes everywhere, so that a setup has all of them to write.
+/// Fills everything with random bytes, so that a setup must overwrite all of them.
 fn fill(run: &mut Run, book: &mut Book) {
     for stock in 0..ROOM {
         book.put(stock, &breaks::any(&mut run.chance));
@@ -43,7 +43,7 @@ fn set_up(run: &mut Run, book: &mut Book, shape: Shape, stocks: usize) {
     book.play_shaped(&mut run.tally, shape, &Call::Setup { end, setups });
 }
 
-/// Each of the three lengths, and pairs of them, 0, a little and much too short or too long.
+/// Each of the three lengths, and pairs of them: 0, slightly or much too short, or too long.
 fn wrong(right: Shape) -> Vec<Shape> {
     let room = Shape::right(ROOM);
     let mut shapes = Vec::new();
@@ -63,7 +63,7 @@ fn wrong(right: Shape) -> Vec<Shape> {
     shapes
 }
 
-/// Lengths other than the right one, as far as there is room.
+/// Wrong lengths, up to the room that there is.
 fn lengths(right: usize, step: usize, room: usize) -> Vec<usize> {
     let mut lengths = vec![0, 1, right + 1, right + step];
     lengths.extend(right.checked_sub(1));
@@ -72,7 +72,7 @@ fn lengths(right: usize, step: usize, room: usize) -> Vec<usize> {
     lengths
 }
 
-/// Every kind of call but setup, on stocks that are there and stocks that are not.
+/// Makes every kind of call but setup, on stocks that exist and stocks that do not.
 fn every_call(run: &mut Run, book: &mut Book, shape: Shape) {
     let count = shape.stocks as u32;
     let last = count.saturating_sub(1);
@@ -82,6 +82,7 @@ fn every_call(run: &mut Run, book: &mut Book, shape: Shape) {
             book.play_shaped(&mut run.tally, shape, &call);
         };
         play(Call::Read { stock });
+        play(Call::Next { stock });
         play(Call::Settle { stock, time });
         for letter in Letter::ALL {
             play(Call::Tell(Message {
@@ -97,7 +98,7 @@ fn every_call(run: &mut Run, book: &mut Book, shape: Shape) {
     }
 }
 
-/// Setup's list of wrong length, also with numbers that are out of range.
+/// Setup lists of the wrong length, also with numbers that are out of range.
 fn lists(run: &mut Run, book: &mut Book, stocks: usize) {
     let right = 4 * stocks;
     let mut lengths = lengths(right, 4, right + 4);

@@ -1,14 +1,17 @@
-//! Counts what was called and seen, and prints it: a name and a row of counts to a line.
+//! Counts calls and results, and prints them: each line has a name and a row of counts.
 
 use bytes::{Call, Given};
 
 /// The kinds of call, in the order of the table's rows.
-const KINDS: [&str; 9] = ["setup", "settle", "read", "T", "Q", "O", "P", "R", "X"];
+const KINDS: [&str; 10] = [
+    "setup", "settle", "read", "next", "T", "Q", "O", "P", "R", "X",
+];
 
 /// The numbers that the rules can give for each kind of call.
-const POSSIBLE: [&[usize]; 9] = [
+const POSSIBLE: [&[usize]; 10] = [
     &[0, 1, 2],
     &[0, 1, 3, 4, 14],
+    &[0, 1, 3],
     &[0, 1, 3],
     &[0, 1, 3, 4, 5, 6, 7, 11, 12, 13],
     &[0, 1, 3, 4, 5, 6, 7],
@@ -24,12 +27,14 @@ const DIFFERENCES_AT_MOST: u64 = 10;
 #[derive(Default)]
 pub struct Tally {
     /// A row per kind of call, a column per number.
-    table: [[u64; 15]; 9],
+    table: [[u64; 15]; 10],
     /// A row per kind of book, in the order in which they are played, a column per kind of call.
-    parts: Vec<(&'static str, [u64; 9])>,
-    /// For each state the answers that told it.
+    parts: Vec<(&'static str, [u64; 10])>,
+    /// How many answers had each state.
     states: [u64; 6],
+    /// The moments that were done, and those that `next` announced.
     marks: [u64; 8],
+    coming: [u64; 8],
     /// Calls answered 1 though the arrays had the right lengths.
     rubbish: u64,
     differences: u64,
@@ -40,7 +45,8 @@ fn row(call: &Call) -> usize {
         Call::Setup { .. } => 0,
         Call::Settle { .. } => 1,
         Call::Read { .. } => 2,
-        Call::Tell(message) => 3 + message.letter as usize,
+        Call::Next { .. } => 3,
+        Call::Tell(message) => 4 + message.letter as usize,
     }
 }
 
@@ -53,9 +59,9 @@ fn print_row<T: std::fmt::Display>(name: &str, cells: &[T]) {
 }
 
 impl Tally {
-    /// From here on calls are counted as those of this kind of book.
+    /// Counts the following calls under this kind of book.
     pub fn begin(&mut self, part: &'static str) {
-        self.parts.push((part, [0; 9]));
+        self.parts.push((part, [0; 10]));
     }
 
     pub fn count(&mut self, call: &Call, given: &Given, good_shape: bool) {
@@ -65,18 +71,24 @@ impl Tally {
             calls[row(call)] += 1;
         }
         let is_setup = matches!(call, Call::Setup { .. });
-        if !is_setup && !matches!(number, 1..=3) {
+        let is_next = matches!(call, Call::Next { .. });
+        if !is_setup && !is_next && !matches!(number, 1..=3) {
             self.states[given.answer.state as usize] += 1;
         }
         if !is_setup && number == 1 && good_shape {
             self.rubbish += 1;
         }
-        for (count, &mark) in self.marks.iter_mut().zip(MARKS) {
+        let marks = if is_next {
+            &mut self.coming
+        } else {
+            &mut self.marks
+        };
+        for (count, &mark) in marks.iter_mut().zip(MARKS) {
             *count += u64::from(given.mark == u32::from(mark));
         }
     }
 
-    /// One more difference; after some of them the rest is not worth reading.
+    /// Counts a difference, and stops the test after a few of them.
     pub fn differ(&mut self) {
         self.differences += 1;
         if self.differences == DIFFERENCES_AT_MOST {
@@ -89,7 +101,7 @@ impl Tally {
         self.table.iter().flatten().sum()
     }
 
-    /// Prints the tables; true when all that can be seen was seen, and nothing differs.
+    /// Prints the tables. True if everything that can occur did occur, and nothing differs.
     pub fn print(&self) -> bool {
         self.print_tables();
         let missing = self.missing();
@@ -117,10 +129,11 @@ impl Tally {
         print_row("states", &self.states);
         print_row(" mark", &MARKS.map(char::from));
         print_row("marks", &self.marks);
+        print_row("coming", &self.coming);
         print_row("answered-1", &[self.rubbish]);
     }
 
-    /// What should have been seen and was not.
+    /// What should have occurred and did not.
     fn missing(&self) -> Vec<String> {
         let mut missing = Vec::new();
         for ((kind, row), possible) in KINDS.iter().zip(&self.table).zip(POSSIBLE) {
@@ -130,15 +143,16 @@ impl Tally {
         for (state, &count) in self.states.iter().enumerate() {
             missing.extend((count == 0).then(|| format!("state {state}")));
         }
-        for (&mark, count) in MARKS.iter().zip(self.marks) {
-            missing.extend((count == 0).then(|| format!("mark {}", char::from(mark))));
+        for (&mark, (done, coming)) in MARKS.iter().zip(self.marks.iter().zip(self.coming)) {
+            missing.extend((*done == 0).then(|| format!("mark {}", char::from(mark))));
+            missing.extend((coming == 0).then(|| format!("{} to come", char::from(mark))));
         }
         missing.extend((self.rubbish == 0).then(|| "rubbish".to_string()));
         missing
     }
 }
 
-/// A number with a comma after each three digits.
+/// A number with commas between groups of three digits.
 fn thousands(number: u64) -> String {
     let digits = number.to_string();
     let mut text = String::new();

@@ -1,11 +1,11 @@
-//! Times worth trying: at the moments and beside them, and at the edges of what is taken.
+//! Times to test with: at the moments and next to them, and at the edges of the accepted range.
 
 use bytes::field::*;
 use bytes::WORDS;
 
 use crate::chance::Chance;
 
-/// A time for the stock's next call; most are not before its clock.
+/// A time for the stock's next call, mostly not before its clock.
 pub fn pick(chance: &mut Chance, record: &[u32; WORDS], oldest: Option<u32>) -> u32 {
     let clock = record[CLOCK];
     match chance.below(64) {
@@ -18,14 +18,14 @@ pub fn pick(chance: &mut Chance, record: &[u32; WORDS], oldest: Option<u32>) -> 
     }
 }
 
-/// Out of range or far before the clock.
+/// A time that is out of range or far before the clock.
 fn wrong(chance: &mut Chance, record: &[u32; WORDS]) -> u32 {
     let latest = record[END].wrapping_add(300_000);
     let later = latest.wrapping_add(1);
     chance.pick(&[latest, later, later, u32::MAX, 0])
 }
 
-/// At, just before or just after one of the next times at which something changes.
+/// A time at, just before or just after one of the next times at which something changes.
 fn at_edge(chance: &mut Chance, record: &[u32; WORDS], oldest: Option<u32>) -> u32 {
     let clock = record[CLOCK];
     let edges = edges(record, oldest);
@@ -63,7 +63,7 @@ fn edges(record: &[u32; WORDS], oldest: Option<u32>) -> Vec<u32> {
     edges
 }
 
-/// When a pause is to start, so that it is late or just not; Limit takes 15,000 to become one.
+/// A time for a pause to start, so that it is just late or just not late. Limit takes 15,000 to lead to one.
 pub fn late_start(chance: &mut Chance, end: u32, by_limit: bool) -> u32 {
     let start = match chance.below(3) {
         0 => end.saturating_sub(chance.below(590_000)),

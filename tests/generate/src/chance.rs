@@ -36,7 +36,7 @@ impl Chance {
         list[self.below(list.len() as u32) as usize]
     }
 
-    /// A place of the list, each as often as its weight says.
+    /// An index of the list, chosen by the weights.
     pub fn weighted(&mut self, weights: &[u32]) -> usize {
         let mut rest = self.below(weights.iter().sum());
         let mut place = 0;
@@ -47,7 +47,7 @@ impl Chance {
         place
     }
 
-    /// A place of a list of this length, each one half as often as the one before it.
+    /// An index of a list of this length, each half as likely as the one before it.
     pub fn early(&mut self, length: usize) -> usize {
         let place = self.next().trailing_zeros() as usize;
         place.min(length - 1)

@@ -1,5 +1,5 @@
-//! A day's text: some lines with leading zeros, and an end that is as announced, goes on with bytes
-//! that nobody reads, or has a bad line.
+//! A day's text. Some lines have leading zeros. The day ends as announced, with extra bytes after the
+//! last message, or with a bad line.
 
 use second::{Letter, Message};
 
@@ -7,7 +7,7 @@ use crate::chance::Chance;
 use crate::player::Player;
 use crate::tape::line;
 
-/// The day's text, one in six with a bad last line and one in six with bytes after the last message.
+/// The day's text: one day in six has a bad last line, and one in six has bytes after the last message.
 pub fn finish(player: &mut Player) -> Vec<u8> {
     for line in &mut player.tape.messages {
         if player.chance.one_in(30) {
@@ -25,7 +25,7 @@ pub fn finish(player: &mut Player) -> Vec<u8> {
     }
 }
 
-/// The same message, its numbers with leading zeros, up to ten digits.
+/// The same message with leading zeros in its numbers, up to ten digits.
 fn with_zeros(chance: &mut Chance, line: &str) -> String {
     let mut fields = line.trim_end().split(' ');
     let letter = fields.next().unwrap_or_default().to_string();
@@ -33,7 +33,7 @@ fn with_zeros(chance: &mut Chance, line: &str) -> String {
     letter + &padded.collect::<String>() + "\n"
 }
 
-/// A line that cannot be read, the rest of one, or nothing at all.
+/// A malformed line, an incomplete line, or nothing.
 fn bad_line(chance: &mut Chance) -> Vec<u8> {
     let good = some_line(chance);
     let place = chance.below(good.len() as u32) as usize;

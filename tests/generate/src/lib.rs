@@ -1,7 +1,7 @@
 //! Days aimed at ties, bands, the one percent test and full windows, each from one seed.
 //!
-//! A day is played through the second program's library while it is written: the next message
-//! looks at the stock's state, bands, mean and moments still to come, and picks what lies at an edge.
+//! The generator plays a day through the second implementation while it writes the day. It chooses each
+//! message by the stock's state, bands, mean and moments still to come, so that the message is at an edge.
 
 #![forbid(unsafe_code)]
 

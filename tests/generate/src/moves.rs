@@ -1,4 +1,4 @@
-//! The moves of a player: messages that bring something about, or that a state makes telling.
+//! The moves of a player: messages that cause an event, or that test the rules of a state.
 
 use second::{Letter, Message, CLOSED, LATE_PAUSE, LIMIT, PARTICIPANTS, PAUSED, TRADING, WAITING};
 
@@ -7,7 +7,7 @@ use crate::prices::{self, HIGHEST};
 use crate::tape::AFTER_END;
 
 impl Player {
-    /// Brings the intent about at this time, or does what is telling there.
+    /// Makes the intent happen at this time, or else sends a message that tests the state.
     pub(crate) fn act(&mut self, stock: usize, time: u32, intent: Intent) {
         self.tape.settle(stock, time);
         let state = self.stock(stock).state;
@@ -24,10 +24,10 @@ impl Player {
         }
     }
 
-    /// What the state makes telling: what it takes, at prices that lie at an edge.
+    /// Sends a message that tests the state: mostly one that the state takes, at a price on an edge.
     fn any(&mut self, stock: usize, time: u32) {
         let state = self.stock(stock).state;
-        // In the order of the letters T, Q, O, P, R, X.
+        // The weights are in the order of the letters T, Q, O, P, R, X.
         let weights = match state {
             WAITING if time < 300_000 => [6, 4, 2, 0, 0, 0],
             WAITING => [5, 4, 1, 0, 0, 0],
@@ -50,7 +50,7 @@ impl Player {
         }
     }
 
-    /// A message of this letter, within all ranges and by the primary in most cases.
+    /// A message of this letter, mostly within all ranges and by the primary.
     fn message(&mut self, stock: usize, time: u32, letter: Letter) {
         let mut m = self.blank(stock, time, letter);
         let kept = &self.tape.book[stock];
@@ -71,7 +71,7 @@ impl Player {
         self.tape.send(m);
     }
 
-    /// An opening price: near the last reference, or of another size altogether.
+    /// An opening price: near the last reference, or far from it.
     fn opening(&mut self, stock: usize) -> u32 {
         let kept = &self.tape.book[stock];
         let (reference, close) = (kept.reference, kept.setup.close);
@@ -100,7 +100,7 @@ impl Player {
         self.tape.send(Message { price, ..m });
     }
 
-    /// A trade that the bands in force let by.
+    /// A trade within the bands in force.
     fn trade_within(&mut self, stock: usize, time: u32) {
         let now = prices::view(self.stock(stock));
         let price = if now.upper == 0 {
@@ -121,7 +121,7 @@ impl Player {
         });
     }
 
-    /// Takes away the quotes that would cross a bid or an offer at this price, then makes it.
+    /// Removes the quotes that would cross a bid or an offer at this price, and then quotes it.
     fn enter_limit(&mut self, stock: usize, time: u32) {
         let now = prices::view(self.stock(stock));
         let by_bid = now.lower == 0 || (self.chance.one_in(2) && now.upper <= HIGHEST);
@@ -145,7 +145,7 @@ impl Player {
         }
     }
 
-    /// Replaces every limit quote, so that Limit ends; now and then it begins afresh at once.
+    /// Replaces every limit quote, so that Limit ends; sometimes it begins again at once.
     fn leave_limit(&mut self, stock: usize, time: u32) {
         let limits = self.limit_quotes(stock);
         if self.chance.one_in(3) {
@@ -159,7 +159,7 @@ impl Player {
         }
     }
 
-    /// The participants whose bid is the upper or whose offer the lower band in force.
+    /// The participants whose bid is at the upper band in force, or whose offer is at the lower.
     fn limit_quotes(&self, stock: usize) -> Vec<u32> {
         let kept = self.stock(stock);
         let now = prices::view(kept);
@@ -168,7 +168,7 @@ impl Player {
         all.filter(|&p| at_band(p)).map(|p| p as u32).collect()
     }
 
-    /// Quotes at the bands that leaving Limit now would bring, where they are not limits yet.
+    /// Quotes at the bands that would follow if Limit ended now, where such quotes are not at a limit yet.
     fn wait_for_leaving(&mut self, stock: usize, time: u32, limits: &[u32]) {
         let blank = self.blank(stock, time, Letter::Q);
         let clear = |&participant: &u32| Message {
@@ -183,7 +183,7 @@ impl Player {
         }
     }
 
-    /// A bid at this upper or an offer at this lower band, if a quote can have that price.
+    /// A bid at this upper band or an offer at this lower band, if a quote can have that price.
     fn quote_at(&mut self, stock: usize, time: u32, participant: u32, lower: u32, upper: u32) {
         if upper <= HIGHEST && (lower == 0 || self.chance.one_in(2)) {
             self.quote(stock, time, participant, upper, 0);
@@ -192,7 +192,7 @@ impl Player {
         }
     }
 
-    /// Quotes at the bands that a moment still to come will bring, so that Limit begins there.
+    /// Quotes at the bands that a later moment will bring, so that Limit begins then.
     pub(crate) fn lay_in_wait(&mut self, stock: usize) {
         let moments = self.stock(stock).moments();
         let time = self.stock(stock).clock;
@@ -213,7 +213,7 @@ impl Player {
         self.act(stock, time, Intent::Any);
     }
 
-    /// Makes a straddle, so that the primary's pause is good.
+    /// Makes a straddle, so that the primary's pause is accepted.
     fn pause(&mut self, stock: usize, time: u32) {
         let now = prices::view(self.stock(stock));
         if now.bid_flag != 2 && now.offer_flag != 2 {
@@ -222,7 +222,7 @@ impl Player {
         self.message(stock, time, Letter::P);
     }
 
-    /// Takes all offers away and offers above the upper band, or the same with bids.
+    /// Removes all offers and offers above the upper band, or removes all bids and bids below the lower band.
     fn make_straddle(&mut self, stock: usize, time: u32) {
         let now = prices::view(self.stock(stock));
         let by_bid = now.upper >= HIGHEST;
@@ -242,7 +242,7 @@ impl Player {
         }
     }
 
-    /// Many trades in one or a few milliseconds, now and then until no more are held.
+    /// Many trades within one or a few milliseconds, sometimes until the window is full.
     pub(crate) fn burst(&mut self, stock: usize) {
         let state = self.stock(stock).state;
         if state > LIMIT {
@@ -259,7 +259,7 @@ impl Player {
         }
     }
 
-    /// A message that is refused, or that would be if its field were one larger.
+    /// A message that is refused, or whose field has its last valid value.
     pub(crate) fn wrong(&mut self, stock: usize) {
         let clock = self.stock(stock).clock;
         let letter = self.chance.pick(&Letter::ALL);
@@ -273,7 +273,7 @@ impl Player {
         self.tape.send(m);
     }
 
-    /// Puts one field of a message out of its range, or out of place.
+    /// Puts one field of a message out of range, or gives it a wrong value.
     fn spoil(&mut self, m: &mut Message) {
         match self.chance.below(9) {
             0 => m.stock = self.chance.pick(&[self.tape.book.len() as u32, u32::MAX]),

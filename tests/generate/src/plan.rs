@@ -1,4 +1,4 @@
-//! The plans: what a day of a seed is mostly about.
+//! The plans: what the day of a seed mostly tests.
 
 use second::Setup;
 
@@ -8,21 +8,21 @@ use crate::prices;
 use crate::tape::Tape;
 
 pub struct Plan {
-    /// About when the day's first messages come; 0 is its beginning.
+    /// The approximate time of the first messages; 0 is the beginning of the day.
     pub start: u32,
-    /// The stocks' first messages come at most this long before.
+    /// The stocks' first messages come at most this long before `start`.
     pub spread: u32,
-    /// The day ends once it has so many messages.
+    /// The day ends once it has this many messages.
     pub messages: usize,
     /// Participants below this number quote.
     pub crowd: u32,
-    /// How far apart in time messages without an aim are at most.
+    /// The greatest time between messages without an aim.
     pub pace: u32,
-    /// A time farther off than this is seldom aimed at.
+    /// Times farther away than this are seldom aimed at.
     pub leap: u32,
-    /// Out of so many bursts of trades one fills the window.
+    /// One burst of trades in this many fills the window.
     pub few_bursts: u32,
-    /// Weights of: aiming at ties, edges of time, near in time, wrong, bursts of trades, lying in wait.
+    /// Weights of the moves: aim at ties, act at edges of time, act soon, send a wrong message, send a burst of trades, quote at later bands.
     pub weights: [u32; 6],
 }
 
@@ -36,7 +36,7 @@ pub fn begin(seed: u64) -> Player {
     Player::new(chance, Tape::new(setups, end), plan)
 }
 
-/// Both ends of E's range and beside them, and in between.
+/// A session's end: at the ends of its range, next to them, or in between.
 fn end(chance: &mut Chance) -> u32 {
     match chance.below(6) {
         0 | 1 => 3_600_000,
@@ -47,8 +47,8 @@ fn end(chance: &mut Chance) -> u32 {
     }
 }
 
-/// When the first messages come and how far apart: at the day's beginning, at the time of f, or
-/// some time before something happens to all stocks.
+/// The plan's `start` and `spread`: at the beginning of the day, just after f, or some time before an
+/// event that all stocks share.
 fn start(chance: &mut Chance, end: u32) -> (u32, u32) {
     let goal = match chance.below(8) {
         0..=2 => return (0, 1),
@@ -85,7 +85,7 @@ fn plan(chance: &mut Chance, (start, spread): (u32, u32)) -> (Plan, u32) {
         weights: [6, 4, 5, 2, 1, 3],
     };
     if chance.one_in(40) {
-        // A day longer than any buffer.
+        // A day that is longer than any buffer.
         plan.messages = 6_000;
         plan.pace = 500;
         plan.leap = 20_000;
@@ -93,12 +93,12 @@ fn plan(chance: &mut Chance, (start, spread): (u32, u32)) -> (Plan, u32) {
         return (plan, 8);
     }
     let stocks = match chance.below(8) {
-        // Ties: long aims on few stocks.
+        // Ties: plans far ahead, on few stocks.
         0 | 1 => {
             plan.weights = [12, 4, 2, 1, 0, 2];
             chance.between(1, 3)
         }
-        // Quotes: in and out of Limit, within one stretch of time.
+        // Quotes: Limit begins and ends often within a short time.
         2 => {
             plan.weights = [1, 3, 10, 1, 0, 6];
             plan.pace = 5_000;

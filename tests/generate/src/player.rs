@@ -1,4 +1,4 @@
-//! Plays one day: picks a stock and a time that lies at an edge; `moves` then picks the message.
+//! Plays one day: chooses a stock and a time at an edge; `moves` then chooses the message.
 
 use second::{Stock, CLOSED, LATE_PAUSE, PAUSED};
 
@@ -6,7 +6,7 @@ use crate::chance::Chance;
 use crate::plan::Plan;
 use crate::tape::{Tape, AFTER_END};
 
-/// What to bring about at a time, so that its moment falls on another.
+/// What to make happen at a time, so that its moment ties with another.
 #[derive(Clone, Copy, Debug, PartialEq, Eq)]
 pub(crate) enum Intent {
     /// A trade, which leaves 300,000 later.
@@ -15,13 +15,13 @@ pub(crate) enum Intent {
     Start,
     /// An entry into Limit, which lasts 15,000.
     Limit,
-    /// A pause, good to reopen 300,000 later and over after 600,000.
+    /// A pause, which can be reopened 300,000 later and ends after 600,000.
     Pause,
-    /// Whatever the state makes telling.
+    /// Any message that tests the state.
     Any,
 }
 
-/// Intents that lead to one time, each this long before it, by way of trades and quotes.
+/// Intents that lead to one time, each this long before it, through trades and quotes.
 const BY_TRADES: &[(u32, Intent)] = &[
     (300_000, Intent::Trade),
     (60_000, Intent::Any),
@@ -30,12 +30,12 @@ const BY_TRADES: &[(u32, Intent)] = &[
     (1, Intent::Any),
     (0, Intent::Any),
 ];
-/// By way of a pause that is over then, whether Limit leads to it or the primary declares it.
+/// Through a pause that ends then, whether Limit leads to it or the primary declares it.
 const BY_LIMIT: &[(u32, Intent)] = &[(615_000, Intent::Limit), (1, Intent::Any), (0, Intent::Any)];
 const BY_PAUSE: &[(u32, Intent)] = &[(600_000, Intent::Pause), (1, Intent::Any), (0, Intent::Any)];
-/// By way of a Limit that lasts beyond then.
+/// Through a limit state that lasts beyond that time.
 const ACROSS: &[(u32, Intent)] = &[(8_000, Intent::Limit), (1, Intent::Any), (0, Intent::Any)];
-/// By way of a pause that is good to reopen then.
+/// Through a pause that can be reopened from then on.
 const BY_REOPENING: &[(u32, Intent)] = &[
     (300_000, Intent::Trade),
     (300_000, Intent::Pause),
@@ -46,7 +46,7 @@ pub struct Player {
     pub chance: Chance,
     pub tape: Tape,
     pub(crate) plan: Plan,
-    /// For each stock the intents still to come, in order of time.
+    /// Each stock's intents still to come, in order of time.
     aims: Vec<Vec<(u32, Intent)>>,
 }
 
@@ -75,7 +75,7 @@ impl Player {
         }
     }
 
-    /// Where the plan starts late in the day, each stock's first trade comes about then.
+    /// If the plan starts late in the day, makes each stock's first trade near that time.
     fn set_out(&mut self) {
         for stock in 0..self.tape.book.len() {
             if self.plan.start > 0 {
@@ -85,7 +85,7 @@ impl Player {
         }
     }
 
-    /// When all stocks are Closed, a few more turns are taken.
+    /// Whether to end the day; when all stocks are Closed, it goes on for a few more messages.
     fn is_over(&mut self) -> bool {
         let all_closed = self.tape.book.iter().all(|stock| stock.state == CLOSED);
         all_closed && self.chance.one_in(40)
@@ -106,7 +106,7 @@ impl Player {
         &self.tape.book[stock]
     }
 
-    /// Acts a little later, or in the same millisecond.
+    /// Acts a little after the clock, or in the same millisecond.
     pub(crate) fn near(&mut self, stock: usize) {
         let by = match self.chance.below(4) {
             0 => 0,
@@ -128,7 +128,7 @@ impl Player {
         self.act(stock, time, Intent::Any);
     }
 
-    /// One of the first of these times after the clock; one this far off is seldom taken.
+    /// One of the first of these times after the clock. A time farther away than `leap` is seldom chosen.
     pub(crate) fn soon(&mut self, stock: usize, times: &[u32], leap: u32) -> Option<u32> {
         if times.is_empty() {
             return None;
@@ -153,7 +153,7 @@ impl Player {
         edges
     }
 
-    /// Does the next intent of the stock's aim, or takes a new aim.
+    /// Does the next intent of the stock, or chooses a new time to aim at.
     fn follow_aim(&mut self, stock: usize) {
         if self.aims[stock].is_empty() {
             self.take_aim(stock);
@@ -167,7 +167,7 @@ impl Player {
         }
     }
 
-    /// Picks a time to aim at and those leads to it for which there is time left.
+    /// Chooses a time to aim at, and the leads to it for which there is time left.
     fn take_aim(&mut self, stock: usize) {
         let clock = self.stock(stock).clock;
         let end = self.tape.end;

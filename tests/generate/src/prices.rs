@@ -1,4 +1,4 @@
-//! Prices worth trying: at the bands and beside them, and at the edge of the one percent test.
+//! Prices to test with: at the bands and next to them, and at the edge of the one percent test.
 
 use second::{read, Answer, Stock};
 
@@ -6,13 +6,13 @@ use crate::chance::Chance;
 
 pub const HIGHEST: u32 = 999_999_999;
 
-/// References of every size; many are whole cents, of which one percent is a whole number.
+/// References of every size. Many are whole cents, so that one percent of them is a whole number.
 pub fn first_reference(chance: &mut Chance, close: u32) -> u32 {
     let price = any_size(chance, close);
     whole_cents(chance, price)
 }
 
-/// This price, half of the time without what is less than a cent.
+/// This price, half of the time rounded down to a whole cent.
 pub fn whole_cents(chance: &mut Chance, price: u32) -> u32 {
     if price >= 100 && chance.one_in(2) {
         price / 100 * 100
@@ -21,7 +21,7 @@ pub fn whole_cents(chance: &mut Chance, price: u32) -> u32 {
     }
 }
 
-/// Tiny, about a bound of the closes, ordinary, the highest.
+/// A reference: tiny, near a limit of the closes, ordinary, or the highest.
 fn any_size(chance: &mut Chance, close: u32) -> u32 {
     match chance.below(8) {
         0 => chance.between(1, 200),
@@ -33,7 +33,7 @@ fn any_size(chance: &mut Chance, close: u32) -> u32 {
     }
 }
 
-/// A close, most of them at or beside a bound of the percents.
+/// A close, often at or next to a limit between two percents.
 pub fn close(chance: &mut Chance) -> u32 {
     match chance.below(10) {
         0 => chance.between(1, 200),
@@ -56,7 +56,7 @@ fn has_bands(now: &Answer) -> bool {
     now.upper != 0
 }
 
-/// A price for a trade: about the bands, at the edge of the Test, or anywhere within.
+/// A price for a trade: near the bands, at the edge of the Test, or anywhere within the bands.
 pub fn trade(chance: &mut Chance, stock: &Stock) -> u32 {
     let now = view(stock);
     if !has_bands(&now) {
@@ -71,7 +71,7 @@ pub fn trade(chance: &mut Chance, stock: &Stock) -> u32 {
     }
 }
 
-/// Before the first reference trades stay together, so that their mean is near them.
+/// A price for a trade before the first reference: close to the others, so that their mean is near.
 fn waiting_trade(chance: &mut Chance, stock: &Stock) -> u32 {
     match stock.trades.last() {
         Some(last) if !chance.one_in(4) => about(chance, last.price),
@@ -79,7 +79,7 @@ fn waiting_trade(chance: &mut Chance, stock: &Stock) -> u32 {
     }
 }
 
-/// This price or one tick off it on either side, in range.
+/// This price, or one tick above or below it, in range.
 fn about(chance: &mut Chance, price: u32) -> u32 {
     clamp(i64::from(price) + i64::from(chance.below(3)) - 1)
 }
@@ -95,7 +95,7 @@ fn clamp(price: i64) -> u32 {
     price.clamp(1, i64::from(HIGHEST)) as u32
 }
 
-/// The trade after which the mean just is, or just is not, one percent away.
+/// The price of a trade after which the mean is just, or just not, one percent away.
 fn edge_of_test(chance: &mut Chance, stock: &Stock) -> u32 {
     let enough = chance.one_in(2);
     let price = if chance.one_in(2) {
@@ -106,7 +106,7 @@ fn edge_of_test(chance: &mut Chance, stock: &Stock) -> u32 {
     clamp(price)
 }
 
-/// A trade that changes the reference by the Test, if the bands let it.
+/// The price of a trade by which the Test changes the reference, if it is within the bands.
 pub fn far(chance: &mut Chance, stock: &Stock) -> u32 {
     let now = view(stock);
     let more = i64::from(chance.below(2 + now.reference / 50));
@@ -128,7 +128,7 @@ pub fn far(chance: &mut Chance, stock: &Stock) -> u32 {
 fn test_above(stock: &Stock) -> i64 {
     let (count, sum) = with_one_more(stock);
     let mean = i64::from(stock.reference) + i64::from(stock.reference.div_ceil(100));
-    // Of (2s + c) / 2c, dropping the rest, s is the least that gives the mean.
+    // The mean of sum s and count c is (2s + c) / 2c, rounded down: this s is the least that gives the mean.
     (2 * count * mean - count + 1).div_euclid(2) - sum
 }
 
@@ -139,7 +139,7 @@ fn test_below(stock: &Stock) -> i64 {
     (2 * count * mean + count - 1).div_euclid(2) - sum
 }
 
-/// How many trades the window has after one more, and the sum of those before it.
+/// How many trades the window has after one more trade, and the sum of the prices before it.
 fn with_one_more(stock: &Stock) -> (i64, i64) {
     let sum = stock
         .trades
@@ -149,7 +149,7 @@ fn with_one_more(stock: &Stock) -> (i64, i64) {
     (stock.trades.len() as i64 + 1, sum)
 }
 
-/// A bid and an offer: absent, about a band, about each other, or anywhere.
+/// A bid and an offer: absent, near a band, near each other, or anywhere.
 pub fn quote(chance: &mut Chance, stock: &Stock) -> (u32, u32) {
     let now = view(stock);
     let bid = side(chance, &now, now.offer);

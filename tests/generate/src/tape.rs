@@ -1,8 +1,8 @@
-//! The day as it is written: each message is also told to a book, so that the next can aim.
+//! The day while it is written: each message is also told to a book, on which the choice of the next one depends.
 
 use second::{settle, setup, tell, Answer, Letter, Message, Setup, Stock};
 
-/// Past a session's end, times run on for this long.
+/// Times may exceed the session's end by this much.
 pub const AFTER_END: u32 = 300_000;
 
 pub struct Tape {
@@ -13,7 +13,7 @@ pub struct Tape {
 }
 
 impl Tape {
-    /// A day that begins with these setups, which are in range.
+    /// A day that begins with these setups, which must be in range.
     pub fn new(setups: Vec<Setup>, end: u32) -> Tape {
         Tape {
             book: setup(&setups, end).expect("setups in range"),
@@ -23,7 +23,7 @@ impl Tape {
         }
     }
 
-    /// Does all moments up to this time, as the day program will before a message of it.
+    /// Does all moments up to this time, as the day program does before a message of that time.
     pub fn settle(&mut self, stock: usize, time: u32) {
         while settle(&mut self.book, stock as u32, time).answer.number == 0 {}
     }
@@ -37,7 +37,7 @@ impl Tape {
         tell(&mut self.book, &m)
     }
 
-    /// The answer a stock would give once settled to this time and told these messages.
+    /// The answer that a stock would give after settling to this time and these messages.
     pub fn foresee(&self, stock: usize, time: u32, messages: &[Message]) -> Answer {
         let mut copy = vec![self.book[stock].clone()];
         while settle(&mut copy, 0, time).answer.number == 0 {}
@@ -47,7 +47,7 @@ impl Tape {
         second::read(&copy, 0)
     }
 
-    /// The whole day, announcing so many messages more than there are, with this after them.
+    /// The text of the whole day. It announces this many messages more than there are, and ends with these bytes.
     pub fn text(&self, missing: usize, after: &[u8]) -> Vec<u8> {
         let announced = self.messages.len() + missing;
         let mut text = format!("C {} {} {}\n", self.setups.len(), announced, self.end);

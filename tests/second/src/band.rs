@@ -2,14 +2,14 @@
 
 use crate::stock::Trade;
 
-/// How wide the bands are, fixed for the day by the close.
+/// How wide the bands are. The previous close sets it for the whole day.
 #[derive(Clone, Copy, Debug, PartialEq, Eq)]
 pub(crate) enum Width {
     Percent(u32),
     Small,
 }
 
-/// The close decides all day: over 30,000, 7,500 to 30,000, below 7,500.
+/// The width by the previous close: over 30,000, 7,500 to 30,000, below 7,500.
 pub(crate) fn width(tier: u32, close: u32) -> Width {
     if close > 30_000 {
         Width::Percent(if tier == 1 { 5 } else { 10 })

@@ -42,7 +42,7 @@ fn start(input: &mut Input<impl Read>) -> Option<(Vec<Stock>, u32)> {
     Some((book, contents.messages))
 }
 
-/// Settles the stock to the message's time, printing each moment; then the message.
+/// Settles the stock to the message's time, prints each moment, and tells the message.
 fn settle_and_tell(
     book: &mut [Stock],
     m: &Message,

@@ -145,7 +145,7 @@ fn numbers<const N: usize>(mut rest: &[u8]) -> Option<[u32; N]> {
     rest.is_empty().then_some(all)
 }
 
-/// A number is 1 to 10 digits and not over 4,294,967,295.
+/// A number has one to ten digits and is at most 4,294,967,295.
 fn number(digits: &[u8]) -> Option<u32> {
     if digits.is_empty() || digits.len() > 10 {
         return None;

@@ -116,7 +116,7 @@ impl Stock {
             }
     }
 
-    /// The other 9s: O at 300,000 or later; P without straddle.
+    /// The other 9s: an O that is not before 300,000, a P without a straddle.
     fn is_out_of_place(&self, m: &Message) -> bool {
         match m.letter {
             Letter::O => m.time >= 300_000,
@@ -125,7 +125,7 @@ impl Stock {
         }
     }
 
-    /// R before pause start + 300,000; X before E.
+    /// An R in the first 300,000 of a pause, an X earlier than E.
     fn is_too_early(&self, m: &Message) -> bool {
         match m.letter {
             Letter::R => m.time < self.pause_start + 300_000,
@@ -163,7 +163,7 @@ impl Stock {
         }
     }
 
-    /// Q sets one participant's bid and offer, then the state rules run.
+    /// Q replaces a participant's bid and offer; the rules of the state follow.
     fn take_quote(&mut self, m: &Message) {
         let participant = m.participant as usize;
         self.bids[participant] = m.bid;
@@ -180,7 +180,7 @@ impl Stock {
     }
 }
 
-/// O, P, R and X name a participant, which must be the stock's primary.
+/// Only the stock's primary may send O, P, R and X.
 fn names_primary(letter: Letter) -> bool {
     !matches!(letter, Letter::T | Letter::Q)
 }

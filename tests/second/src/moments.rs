@@ -82,7 +82,7 @@ impl Stock {
         self.earliest().filter(|moment| moment.0 <= time)
     }
 
-    /// A moment still to come that is dated before the clock, the trades being in order.
+    /// A moment still to come whose time is before the clock, the trades being in order.
     pub(crate) fn has_missed_moment(&self) -> bool {
         self.earliest().is_some_and(|moment| moment.0 < self.clock)
     }
@@ -147,7 +147,7 @@ impl Stock {
         }
     }
 
-    /// All trades of time u leave, u being 300,000 ago; then the Test.
+    /// Removes the trades that are 300,000 old, then does the Test.
     fn leave_and_test(&mut self) {
         let leaves = |trade: &&Trade| later(trade.time, 300_000) <= self.clock;
         let count = self.trades.iter().take_while(leaves).count();

@@ -87,7 +87,7 @@ pub struct Notice {
     pub time: u32,
 }
 
-/// Starts the whole book; looks at 1 (shape only) and 2.
+/// Starts the whole book; its checks are 1, for the shape alone, and 2.
 pub fn setup(setups: &[Setup], end: u32) -> Result<Vec<Stock>, u32> {
     if setups.is_empty() || setups.len() > STOCKS_AT_MOST {
         return Err(1);
@@ -132,7 +132,7 @@ pub fn end_in_range(end: u32) -> bool {
     (3_600_000..=23_400_000).contains(&end)
 }
 
-/// Tier 1 or 2; leverage 1, 2 or 3, in tier 1 only 1; primary participant; close.
+/// The tier, the leverage (in tier 1 only 1), the primary and the close are each in range.
 pub fn setup_in_range(setup: &Setup) -> bool {
     let leverage_at_most = match setup.tier {
         1 => 1,
@@ -247,7 +247,7 @@ impl Stock {
         pairs.fold(true, |good, pair| good & (pair[0].time <= pair[1].time))
     }
 
-    /// A pause begun at E - 600,000 or later is a Late pause.
+    /// A pause is a Late pause from E - 600,000 on.
     fn is_late(&self, pause_start: u32) -> bool {
         pause_start >= self.end - 600_000
     }
@@ -324,7 +324,7 @@ impl Stock {
         }
     }
 
-    /// Trading enters Limit when a side has flag 3 and the quotes do not cross.
+    /// From Trading to Limit, if flag 3 is on a side and the quotes do not cross.
     fn enter_limit_if_due(&mut self) {
         let (bid, bid_flag) = self.best_bid();
         let (offer, offer_flag) = self.best_offer();
@@ -335,7 +335,7 @@ impl Stock {
         }
     }
 
-    /// Limit ends when neither side has flag 3; it may begin afresh now.
+    /// Ends Limit if flag 3 is on no side; it may begin again at once.
     fn leave_limit_if_due(&mut self) {
         if self.best_bid().1 != 3 && self.best_offer().1 != 3 {
             let reference = band::mean(&self.trades).unwrap_or(self.reference);

@@ -112,7 +112,7 @@ fn the_longest_line_a_byte_at_a_time() {
 }
 
 #[test]
-fn nothing_after_the_last_message_is_read() {
+fn input_behind_the_last_message_stays_unread() {
     assert_eq!(run(format!("{DAY}rubbish")), PRINTED);
     assert_eq!(run("C 1 0 23400000\nS 2 1 2 115000\nrubbish"), "");
     assert_eq!(run("C 1 0 23400000\nS 2 1 2 115000\n"), "");

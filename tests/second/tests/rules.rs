@@ -577,7 +577,7 @@ fn slip_crossing_does_not_end_limit() {
     assert_eq!((answer.state, answer.offer_flag), (TRADING, 3));
     let answer = tell_one(&mut stock, &quote(2_000, 1, 92_000, 0));
     assert_eq!((answer.state, stock.limit_entry), (LIMIT, 2_000));
-    // Nor does the flag moving to the other side end it.
+    // Flag 3 on the other side does not end it either.
     let answer = tell_one(&mut stock, &quote(3_000, 1, 138_000, 0));
     assert_eq!((answer.bid_flag, answer.offer_flag), (3, 3));
     let answer = tell_one(&mut stock, &quote(4_000, 7, 0, 0));

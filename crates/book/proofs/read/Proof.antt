@@ -51,7 +51,7 @@ use Rattle.stock.specs.declared.Record.{Record}
 use Rattle.stock.proofs.Record as T
 use Rattle.stock.proofs.Record.Laws as T′
 use Rattle.book.specs.Lent.{Lent, lent, noRecord, bytesOf, callNumber, readingIn}
-use Rattle.book.proofs.Called.{inside, read-in, unread-in}
+use Rattle.book.proofs.Called.{inside, asked-in, unasked-in}
 use Rattle.book.proofs.Guarded.{guarded}
 use Rattle.book.proofs.Walking.{bytes as element-fits}
 use Rattle.book.proofs.Locals.{opens-all, frees-all}
@@ -67,10 +67,10 @@ use Rattle.calls.proofs.call_number as nb
 use Rattle.calls.proofs.call_number.Symbol as nb-def
 use Rattle.calls.proofs.call_number.Symbol.{name as #number}
 use Rattle.calls.proofs.call_number.Met as nb-thm
-use Rattle.calls.proofs.zeros as no
-use Rattle.calls.proofs.zeros.Symbol as no-def
-use Rattle.calls.proofs.zeros.Symbol.{name as #no}
-use Rattle.calls.proofs.zeros.Met as no-thm
+use Rattle.stock.proofs.zeros as no
+use Rattle.stock.proofs.zeros.Symbol as no-def
+use Rattle.stock.proofs.zeros.Symbol.{name as #no}
+use Rattle.stock.proofs.zeros.Met as no-thm
 use Rattle.book.proofs.read as f
 use Rattle.book.proofs.read.Key.{name as #fn}
 use Rattle.book.proofs.read.Statement as stated
@@ -272,7 +272,7 @@ module _ {M : Type 1} (𝓤 : URA M) (H : Heap 𝓤) (A : Atoms 𝓤) (W : Given
         returns-within ! Post refl (look ! 0 refl) $
         frees-all ! 0 (full _ ∷ full _ ∷ full _ ∷ full _ ∷ full _ ∷ full _ ∷ full _ ∷ full _ ∷ full _ ∷ full _ ∷ full _ ∷ bare ∷ bare ∷ []) refl $
         keep ! (0 ∷ 1 ∷ 2 ∷ 3 ∷ 4 ∷ 5 ∷ []) $
-        by ! (exits r v is (unread-in i n was r c bad z)))))))
+        by ! (exits r v is (unasked-in i n reading zeros was r c bad z)))))))
         (λ good.
         move ! (15 ∷ 16 ∷ []) $
         looks-slice ! tt T.the-row (Is T.the-row) (shows 𝓤 H A T.the-row) record-vals record-tells (LL.copy T.the-type T′.the-copy 𝓤 H A W) ys b o (λ q′. elem-out ! T.the-row (Is T.the-row) (shows 𝓤 H A T.the-row) record-vals record-tells q′ ys i noRecord b o (inside i n was c good .record-of) (λ is-one.
@@ -306,7 +306,7 @@ module _ {M : Type 1} (𝓤 : URA M) (H : Heap 𝓤) (A : Atoms 𝓤) (W : Given
         returns ! (look ! 5 refl) $
         frees-all ! 5 (full _ ∷ full _ ∷ full _ ∷ full _ ∷ full _ ∷ full _ ∷ full _ ∷ full _ ∷ full _ ∷ full _ ∷ full _ ∷ full _ ∷ full _ ∷ []) refl $
         keep ! (5 ∷ 4 ∷ 3 ∷ 0 ∷ 2 ∷ 1 ∷ []) $
-        by ! (exits r v is (read-in i n was r c good e))))))))))))))
+        by ! (exits r v is (asked-in i n reading zeros was r c good e))))))))))))))
 
 -- ------------------------------------------------------------------ the statement
 
@@ -332,4 +332,4 @@ read-spec 𝓤 H 𝓜 𝓖 𝓡 =
     (meets 𝓤 H (𝓖 .A) (givenOf 𝓤 H 𝓜 𝓖) (𝓜 .mem) (𝓡 .run) (tablesOf 𝓤 H 𝓜 (tables 𝓤 H 𝓜 𝓡 code.env))
     (cited 𝓤 H (Step 𝓤 H (𝓖 .A) (𝓜 .mem) (𝓡 .run)) 𝓜 𝓡 code.env #step g-def.routine code.calls-calls·read-at (g-thm.met 𝓤 H 𝓜 𝓖 𝓡))
     (cited 𝓤 H (Number 𝓤 H (𝓖 .A) (𝓜 .mem) (𝓡 .run)) 𝓜 𝓡 code.env #number nb-def.routine code.calls-calls·call-number (nb-thm.met 𝓤 H 𝓜 𝓖 𝓡))
-    (cited 𝓤 H (No 𝓤 H (𝓖 .A) (𝓜 .mem) (𝓡 .run)) 𝓜 𝓡 code.env #no no-def.routine code.calls-calls·zeros (no-thm.met 𝓤 H 𝓜 𝓖 𝓡)))
+    (cited 𝓤 H (No 𝓤 H (𝓖 .A) (𝓜 .mem) (𝓡 .run)) 𝓜 𝓡 code.env #no no-def.routine code.calls-stock·zeros (no-thm.met 𝓤 H 𝓜 𝓖 𝓡)))

@@ -45,12 +45,13 @@ use denote.Triple.Spec.{Meets, tripleOf}
 use denote.Triple.Table.{entered, cited}
 use denote.Triple.Walked.{says, Stays, stay-slice, stay-none, gave-slice, walkOf, AllGo, goes-none, goes-slice, goes-gave-slice, Walks, ends-at, walked, walk-meets}
 use denote.Exit.{yes}
+use Rattle.rules.specs.Numbers.{noNotice}
 use Rattle.rules.specs.declared.Notice.{Notice}
 use Rattle.stock.specs.View.{settling}
 use Rattle.stock.specs.declared.Record.{Record}
 use Rattle.stock.proofs.Record as T
 use Rattle.stock.proofs.Record.Laws as T′
-use Rattle.calls.specs.Parts.{noNotice, SettledAt}
+use Rattle.calls.specs.Parts.{SettledAt}
 use Rattle.book.specs.Lent.{Lent, lent, noRecord, callNumber, SettlesIn}
 use Rattle.book.proofs.Called.{inside, done-in, kept-in, settled-unchanged, refused-in}
 use Rattle.book.proofs.Guarded.{guarded}
@@ -71,10 +72,10 @@ use Rattle.calls.proofs.call_number as nb
 use Rattle.calls.proofs.call_number.Symbol as nb-def
 use Rattle.calls.proofs.call_number.Symbol.{name as #number}
 use Rattle.calls.proofs.call_number.Met as nb-thm
-use Rattle.calls.proofs.zero_notice as no
-use Rattle.calls.proofs.zero_notice.Symbol as no-def
-use Rattle.calls.proofs.zero_notice.Symbol.{name as #no}
-use Rattle.calls.proofs.zero_notice.Met as no-thm
+use Rattle.stock.proofs.zero_notice as no
+use Rattle.stock.proofs.zero_notice.Symbol as no-def
+use Rattle.stock.proofs.zero_notice.Symbol.{name as #no}
+use Rattle.stock.proofs.zero_notice.Met as no-thm
 use Rattle.book.proofs.settle as f
 use Rattle.book.proofs.settle.Key.{name as #fn}
 use Rattle.book.proofs.settle.Statement as stated
@@ -387,4 +388,4 @@ settle-spec 𝓤 H 𝓜 𝓖 𝓡 =
     (meets 𝓤 H (𝓖 .A) (givenOf 𝓤 H 𝓜 𝓖) (𝓜 .mem) (𝓡 .run) (tablesOf 𝓤 H 𝓜 (tables 𝓤 H 𝓜 𝓡 code.env))
     (cited 𝓤 H (Step 𝓤 H (𝓖 .A) (𝓜 .mem) (𝓡 .run)) 𝓜 𝓡 code.env #step g-def.routine code.calls-calls·settled-at (g-thm.met 𝓤 H 𝓜 𝓖 𝓡))
     (cited 𝓤 H (Number 𝓤 H (𝓖 .A) (𝓜 .mem) (𝓡 .run)) 𝓜 𝓡 code.env #number nb-def.routine code.calls-calls·call-number (nb-thm.met 𝓤 H 𝓜 𝓖 𝓡))
-    (cited 𝓤 H (No 𝓤 H (𝓖 .A) (𝓜 .mem) (𝓡 .run)) 𝓜 𝓡 code.env #no no-def.routine code.calls-calls·zero-notice (no-thm.met 𝓤 H 𝓜 𝓖 𝓡)))
+    (cited 𝓤 H (No 𝓤 H (𝓖 .A) (𝓜 .mem) (𝓡 .run)) 𝓜 𝓡 code.env #no no-def.routine code.calls-stock·zero-notice (no-thm.met 𝓤 H 𝓜 𝓖 𝓡)))

@@ -64,10 +64,10 @@ use Rattle.book.proofs.fresh.fill as fl
 use Rattle.book.proofs.fresh.fill.Symbol as fl-def
 use Rattle.book.proofs.fresh.fill.Symbol.{name as #fill}
 use Rattle.book.proofs.fresh.fill.Met as fl-thm
-use Rattle.calls.proofs.wipe as wp
-use Rattle.calls.proofs.wipe.Symbol as wp-def
-use Rattle.calls.proofs.wipe.Symbol.{name as #wipe}
-use Rattle.calls.proofs.wipe.Met as wp-thm
+use Rattle.window.proofs.wipe as wp
+use Rattle.window.proofs.wipe.Symbol as wp-def
+use Rattle.window.proofs.wipe.Symbol.{name as #wipe}
+use Rattle.window.proofs.wipe.Met as wp-thm
 use Rattle.book.proofs.setup.Key.{name as #setup}
 use Rattle.book.proofs.setup as f
 use Rattle.book.proofs.setup.Statement as stated
@@ -417,4 +417,4 @@ setup-spec 𝓤 H 𝓜 𝓖 𝓡 =
     (meets 𝓤 H (𝓖 .A) (givenOf 𝓤 H 𝓜 𝓖) (𝓜 .mem) (𝓡 .run) (tablesOf 𝓤 H 𝓜 (tables 𝓤 H 𝓜 𝓡 code.env))
     (cited 𝓤 H (Judged 𝓤 H (𝓖 .A) (𝓜 .mem) (𝓡 .run)) 𝓜 𝓡 code.env #judged j-def.routine code.calls-calls·setup-answer (j-thm.met 𝓤 H 𝓜 𝓖 𝓡))
     (cited 𝓤 H (Fill 𝓤 H (𝓖 .A) (𝓜 .mem) (𝓡 .run)) 𝓜 𝓡 code.env #fill fl-def.routine code.calls-book·fresh·fill (fl-thm.met 𝓤 H 𝓜 𝓖 𝓡))
-    (cited 𝓤 H (Wipe 𝓤 H (𝓖 .A) (𝓜 .mem) (𝓡 .run)) 𝓜 𝓡 code.env #wipe wp-def.routine code.calls-calls·wipe (wp-thm.met 𝓤 H 𝓜 𝓖 𝓡)))
+    (cited 𝓤 H (Wipe 𝓤 H (𝓖 .A) (𝓜 .mem) (𝓡 .run)) 𝓜 𝓡 code.env #wipe wp-def.routine code.calls-window·wipe (wp-thm.met 𝓤 H 𝓜 𝓖 𝓡)))

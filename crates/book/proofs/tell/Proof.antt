@@ -76,10 +76,10 @@ use Rattle.calls.proofs.call_number as nb
 use Rattle.calls.proofs.call_number.Symbol as nb-def
 use Rattle.calls.proofs.call_number.Symbol.{name as #number}
 use Rattle.calls.proofs.call_number.Met as nb-thm
-use Rattle.calls.proofs.zeros as no
-use Rattle.calls.proofs.zeros.Symbol as no-def
-use Rattle.calls.proofs.zeros.Symbol.{name as #no}
-use Rattle.calls.proofs.zeros.Met as no-thm
+use Rattle.stock.proofs.zeros as no
+use Rattle.stock.proofs.zeros.Symbol as no-def
+use Rattle.stock.proofs.zeros.Symbol.{name as #no}
+use Rattle.stock.proofs.zeros.Met as no-thm
 use Rattle.book.proofs.tell as f
 use Rattle.book.proofs.tell.Key.{name as #fn}
 use Rattle.book.proofs.tell.Statement as stated
@@ -392,4 +392,4 @@ tell-spec 𝓤 H 𝓜 𝓖 𝓡 =
     (meets 𝓤 H (𝓖 .A) (givenOf 𝓤 H 𝓜 𝓖) (𝓜 .mem) (𝓡 .run) (tablesOf 𝓤 H 𝓜 (tables 𝓤 H 𝓜 𝓡 code.env))
     (cited 𝓤 H (Step 𝓤 H (𝓖 .A) (𝓜 .mem) (𝓡 .run)) 𝓜 𝓡 code.env #step g-def.routine code.calls-calls·told-at (g-thm.met 𝓤 H 𝓜 𝓖 𝓡))
     (cited 𝓤 H (Number 𝓤 H (𝓖 .A) (𝓜 .mem) (𝓡 .run)) 𝓜 𝓡 code.env #number nb-def.routine code.calls-calls·call-number (nb-thm.met 𝓤 H 𝓜 𝓖 𝓡))
-    (cited 𝓤 H (No 𝓤 H (𝓖 .A) (𝓜 .mem) (𝓡 .run)) 𝓜 𝓡 code.env #no no-def.routine code.calls-calls·zeros (no-thm.met 𝓤 H 𝓜 𝓖 𝓡)))
+    (cited 𝓤 H (No 𝓤 H (𝓖 .A) (𝓜 .mem) (𝓡 .run)) 𝓜 𝓡 code.env #no no-def.routine code.calls-stock·zeros (no-thm.met 𝓤 H 𝓜 𝓖 𝓡)))

@@ -2,7 +2,7 @@ use borrow.Author.Needs.{needs}
 use Prim.Native.Nat.{ℕ}
 use mathlib.Core.Bool.{Bool}
 use mathlib.Core.Path.{_≡_}
-use Rattle.band.specs.declared.Limits.{Limits}
+use Rattle.band.specs.declared.Bands.{Bands}
 use Rattle.rules.specs.Quotes.{inForce, kTime, bandsIn, bestBid, bestOffer, bidFlag, offerFlag, bestOf}
 use Rattle.rules.specs.States.{noQuotes}
 use Rattle.rules.specs.declared.Quotes.{Quotes}
@@ -13,7 +13,7 @@ use Rattle.quotes.specs.declared.Shown.{Shown}
 use Rattle.quotes.proofs.show.Statement.{statement}
 use Rattle.quotes.proofs.show.Tie as tie
 
-put : (x : Basis) (q : Quotes) (on : Bool) (bands : Limits) (bid offer b o : ℕ) → on ≡ inForce (stockBy x noQuotes)
+put : (x : Basis) (q : Quotes) (on : Bool) (bands : Bands) (bid offer b o : ℕ) → on ≡ inForce (stockBy x noQuotes)
     → bands ≡ bandsIn (stockBy x noQuotes) → bid ≡ bestBid on (bands .upper) (q .bids) → offer ≡ bestOffer on (bands .lower) (q .offers)
     → b ≡ bidFlag on bands bid → o ≡ offerFlag on bands offer
     → _≡_ {A = Shown}

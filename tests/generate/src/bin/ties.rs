@@ -1,5 +1,5 @@
-//! `ties` reads a day from standard input and prints each tie of two moments, a pair of marks a line:
-//! the moment about to happen and another due at that very time, which happens next or, after z, never.
+//! `ties` reads a day from standard input and prints each tie of two moments, one pair of marks per line:
+//! the moment that happens first, and another due at the same time, which happens next or, after z, never.
 
 use std::io;
 
@@ -11,7 +11,7 @@ fn main() {
     let _ = replay(&mut Input::new(io::stdin().lock()));
 }
 
-/// Plays a day as far as it can be read.
+/// Plays a day up to its end or its first bad line.
 fn replay(input: &mut Input<impl io::Read>) -> Option<()> {
     let contents = input.next_line().and_then(lines::contents)?;
     let mut setups = Vec::new();
@@ -40,7 +40,7 @@ fn settle_and_tell(book: &mut [Stock], m: &Message) {
     second::tell(book, m);
 }
 
-/// The first of these moments happens now: prints it with each other one of its time.
+/// Prints the first of these moments, which happens now, with each other moment of the same time.
 fn print_ties(due: &[(u8, u32)]) {
     let (mark, time) = due[0];
     let others = due.iter().skip(1).take_while(|other| other.1 == time);

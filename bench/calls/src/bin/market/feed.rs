@@ -1,4 +1,4 @@
-//! A book that is told the traffic while it is made.
+//! Plays the traffic on a book while the traffic is generated.
 
 use calls::sides::Library;
 use second::{Letter, Message};
@@ -7,7 +7,7 @@ use sumpheron::raw;
 use crate::sent::Sent;
 use crate::tally::Tally;
 
-/// Plays what comes to a book, writes its messages down, and counts.
+/// Plays messages on a book, records them, and counts what happens.
 pub struct Feed<'a> {
     pub book: &'a mut Library,
     /// The book's place among those of its thread.
@@ -17,7 +17,7 @@ pub struct Feed<'a> {
 }
 
 impl Feed<'_> {
-    /// Does the moments up to this time; what the stock then is.
+    /// Does the moments up to this time, and returns the stock's answer after them.
     pub fn settle(&mut self, stock: u32, time: u32) -> raw::Answer {
         loop {
             let before = self.record(stock).state;
@@ -30,10 +30,10 @@ impl Feed<'_> {
         }
     }
 
-    /// Tells a message, to whose time the stock was settled.
+    /// Tells a message. The stock must be settled to its time.
     pub fn tell(&mut self, m: Message) {
         let record = self.record(m.stock);
-        self.tally.hold(record.count);
+        self.tally.hold(record.trades);
         let answer = self.book.tell(&m);
         self.sent.push(Sent::new(self.place, &m));
         self.tally.count.calls += 1;

@@ -53,33 +53,33 @@ impl Lane {
         }
     }
 
-    /// Starts all books anew.
+    /// Sets up all books again.
     pub fn set_up(&mut self) {
         for book in &mut self.books {
             assert_eq!(book.setup().number, 0);
         }
     }
 
-    /// The bytes that its books lend the library.
+    /// The size of its books' arrays, in bytes.
     pub fn lent(&self) -> usize {
         self.books.iter().map(Library::lent).sum()
     }
 
-    /// The processor's time that all of the traffic takes, with no look at a clock in between.
+    /// The processor time of the whole traffic; no clock is read in between.
     pub fn time(&mut self) -> Duration {
         let before = used();
         self.play(|| {});
         used() - before
     }
 
-    /// Notes how long each message takes.
+    /// Records how long each message takes.
     pub fn watch(&mut self, times: &mut Times) {
         let mut stopwatch = Stopwatch::start();
         self.play(|| times.note(stopwatch.lap()));
     }
 
-    /// Settles to each message's time, tells it, and says that it is done. There must be as many calls and refusals as there were when
-    /// the traffic was made.
+    /// Settles to each message's time, tells the message, and reports that it is done. The numbers of calls and refusals must be the
+    /// same as when the traffic was generated.
     #[inline(never)]
     fn play(&mut self, mut done: impl FnMut()) {
         let mut count = Count::default();

@@ -1,7 +1,7 @@
-//! Plays a whole market: 8,192 stocks in 128 books, on one thread and on every core, where each book belongs to one thread.
+//! Plays a whole market: 8,192 stocks in 128 books, on one thread and on every core. Each book belongs to one thread.
 //!
-//!     market table HEADER       prints the tables, of 1 to 128 books, under this header
-//!     market row BOOKS THREADS  plays so many books on so many threads, and prints their row of both tables
+//!     market table HEADER       prints the tables for 1 to 128 books, under this header
+//!     market row BOOKS THREADS  plays this many books on this many threads, and prints their row of both tables
 
 mod feed;
 mod lane;
@@ -48,7 +48,7 @@ fn print_tables(header: &str) {
     print!("{traffic}");
 }
 
-/// Prints the table of times on so many threads; gives the rows of the traffic's.
+/// Prints the table of times for this many threads, and returns the rows of the traffic table.
 fn print_times(threads: usize) -> String {
     println!("\nThreads: {threads}, and never more than books\n");
     println!("| books | stocks | million messages a second | median, ns a message | 99.9 % | most | ns a call | lent, bytes | traffic, MB | process, MB |");
@@ -63,7 +63,7 @@ fn print_times(threads: usize) -> String {
     traffic
 }
 
-/// What `market row` prints; a process of its own, so that the memory is that of the row.
+/// What `market row` prints. It runs in its own process, so that the memory is that of this row alone.
 fn rows(books: usize, threads: usize) -> String {
     let program = std::env::current_exe().expect("the program has a path");
     let words = [books.to_string(), threads.to_string()];
@@ -116,7 +116,7 @@ fn megabytes(bytes: u64) -> String {
     format!("{:.1}", bytes as f64 / 1e6)
 }
 
-/// The most memory that this process has held, in bytes.
+/// The peak memory of this process, in bytes.
 fn most_memory() -> u64 {
     let status = std::fs::read_to_string("/proc/self/status").expect("Linux has it");
     let line = status.lines().find_map(|line| line.strip_prefix("VmHWM:"));

@@ -1,4 +1,4 @@
-//! Plays books on threads, each book on one.
+//! Plays books on threads; each book stays on one thread.
 
 use std::sync::Barrier;
 use std::thread;
@@ -8,21 +8,21 @@ use crate::lane::Lane;
 use crate::tally::Tally;
 use crate::times::Times;
 
-/// Fewer books than this are played more than once, so that no figure rests on a short time.
+/// Fewer books than this are played more than once, so that no measured time is too short.
 const ENOUGH: usize = 16;
 
-/// What one thread found, or all together.
+/// What one thread measured, or all threads together.
 pub struct Found {
     pub messages: u64,
     pub tally: Tally,
-    /// The bytes that the library is lent.
+    /// The size of the books' arrays, in bytes.
     pub lent: usize,
     /// How often the traffic was played.
     pub repeats: usize,
-    /// How long that took until all threads were done, and the processor's time of all of them; no clock is looked at in between.
+    /// The wall time until all threads were done, and the processor time of all of them; no clock is read in between.
     pub passed: Duration,
     pub worked: Duration,
-    /// How long each message took when it was played as often again.
+    /// How long each message took, in a second run of as many repeats.
     pub times: Times,
 }
 
@@ -38,7 +38,7 @@ impl Found {
     }
 }
 
-/// Deals the books to the threads and plays them all at once.
+/// Distributes the books over the threads, and plays them in parallel.
 pub fn play(books: usize, threads: usize) -> Found {
     let threads = threads.min(books);
     let repeats = (ENOUGH / books).max(1);
@@ -56,7 +56,7 @@ pub fn play(books: usize, threads: usize) -> Found {
     })
 }
 
-/// Makes the traffic of the books of these numbers and plays it, each time together with the other threads.
+/// Generates the traffic of these books and plays it. Each repeat starts at the same time on all threads.
 fn play_lane(numbers: &[u64], repeats: usize, together: &Barrier) -> Found {
     let (mut lane, mut times) = (Lane::new(numbers), Times::new());
     let (mut passed, mut worked) = (Duration::ZERO, Duration::ZERO);

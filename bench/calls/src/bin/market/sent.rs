@@ -2,7 +2,7 @@
 
 use second::{Letter, Message};
 
-/// A message with the place of its book, in 16 bytes, so that reading the traffic takes little of what is timed.
+/// A message with the index of its book, in 16 bytes, so that reading the traffic adds little to the measured time.
 #[derive(Clone, Copy)]
 pub struct Sent {
     pub book: u8,

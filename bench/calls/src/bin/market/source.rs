@@ -1,6 +1,6 @@
-//! Where a book's messages come from: 64 stocks, their prices, storms about one of them, and what the primaries do.
+//! Generates a book's messages: 64 stocks, their prices, storms in one of them, and what the primaries do.
 //!
-//! The session is the shortest that there is, an hour, so that trades stand close enough together for windows to hold many.
+//! The session is the shortest possible, an hour, so that trades are close together and windows hold many.
 
 use std::collections::BTreeSet;
 
@@ -13,28 +13,28 @@ use crate::storm::{self, Storm};
 
 pub const END: u32 = 3_600_000;
 const HIGHEST: u32 = 999_999_999;
-/// The first and the last this many milliseconds are busy.
+/// The session's first and last BUSY milliseconds have more messages.
 const BUSY: u32 = 120_000;
 /// Microseconds from one of a book's messages to the next, on average.
 const IN_STORM: u32 = 5_000;
 const IN_BUSY_TIME: u32 = 10_000;
 const ELSE: u32 = 100_000;
-/// One message in so many is a trade, while a stock may trade and while it may not; that makes some twenty quotes to a trade.
+/// One message in this many is a trade, while a stock may trade and while it may not: about twenty quotes to a trade.
 const TO_A_TRADE: u32 = 19;
 const TO_A_TRADE_IN_PAUSES: u32 = 500;
 
 struct Name {
     setup: Setup,
-    /// About which it is quoted and traded.
+    /// The price around which it is quoted and traded.
     price: u32,
-    /// Whether its pause was seen to.
+    /// Whether its pause was handled already.
     attended: bool,
 }
 
 pub struct Source {
     chance: Chance,
     names: Vec<Name>,
-    /// The stocks, each as often as its share of the messages says.
+    /// The stocks, each repeated in proportion to its share of the messages.
     shares: Vec<u8>,
     storms: Vec<Storm>,
     /// When a primary acts, and on which stock.
@@ -63,7 +63,7 @@ impl Source {
         self.names.iter().map(|name| name.setup).collect()
     }
 
-    /// When it has something next, if it has.
+    /// When the next message is sent, if there is one.
     pub fn due(&self) -> Option<u32> {
         let message = (self.next / 1_000) as u32;
         let message = (message < END).then_some(message);
@@ -71,7 +71,7 @@ impl Source {
         message.into_iter().chain(errand).min()
     }
 
-    /// Sends what is due at this time, an errand before a message.
+    /// Sends what is due at this time; an errand comes before a message.
     pub fn send(&mut self, time: u32, feed: &mut Feed) {
         match self.errands.first() {
             Some(&errand) if errand.0 == time => {
@@ -105,7 +105,7 @@ impl Source {
         self.storm(time).filter(|storm| storm.stock == stock)
     }
 
-    /// A stock by its share; in a storm three of four messages are for one.
+    /// Picks a stock by its share; in a storm three of four messages are for one stock.
     fn pick(&mut self, time: u32) -> u32 {
         let stormy = self.storm(time).map(|storm| storm.stock);
         match stormy {
@@ -114,7 +114,7 @@ impl Source {
         }
     }
 
-    /// The primary opens, closes or reopens the stock, as its state has it.
+    /// The primary opens, closes or reopens the stock, depending on its state.
     fn run_errand(&mut self, stock: u32, time: u32, feed: &mut Feed) {
         let letter = match feed.settle(stock, time).state {
             WAITING => Letter::O,
@@ -141,7 +141,7 @@ impl Source {
         let name = &mut self.names[stock as usize];
         if paused && !name.attended {
             let earliest = match now.state {
-                PAUSED => feed.record(stock).pause + 300_000,
+                PAUSED => feed.record(stock).pause_start + 300_000,
                 _ => END,
             };
             if !self.chance.one_in(8) {
@@ -210,7 +210,7 @@ impl Source {
         }
     }
 
-    /// A quote about the stock's price, which keeps a bid from passing the upper band and an offer from passing the lower.
+    /// A quote around the stock's price. The bid stays at or below the upper band, and the offer at or above the lower.
     fn quote(&mut self, stock: u32, time: u32, now: &raw::Answer) -> Message {
         let price = self.names[stock as usize].price;
         let tick = (price / 2_000).max(1);
@@ -231,9 +231,9 @@ impl Source {
     }
 }
 
-/// The lowest and the highest price that may trade, where bands are in force.
+/// The lowest and the highest price that may trade, if bands are in force.
 fn within(now: &raw::Answer) -> Option<(u32, u32)> {
-    let price = |band: u64| band.clamp(1, HIGHEST.into()) as u32;
+    let price = |band: u32| band.clamp(1, HIGHEST);
     matches!(now.state, TRADING | LIMIT).then(|| (price(now.lower), price(now.upper)))
 }
 
@@ -256,7 +256,7 @@ fn name(chance: &mut Chance) -> Name {
     }
 }
 
-/// The first stock has four of ten messages, and the n-th its share divided by n times the root of n.
+/// The first stock gets four of ten messages, and the n-th stock the first one's share divided by n times the square root of n.
 fn shares() -> Vec<u8> {
     let share = |stock: u8| {
         let n = f64::from(stock) + 1.0;
@@ -265,7 +265,7 @@ fn shares() -> Vec<u8> {
     (0..MOST_STOCKS as u8).flat_map(share).collect()
 }
 
-/// The primaries open most stocks within the first minute; the others have to wait for their first reference.
+/// The primaries open most stocks within the first minute; the others wait for their first reference.
 fn openings(chance: &mut Chance) -> BTreeSet<(u32, u32)> {
     let mut errands = BTreeSet::new();
     for stock in 0..MOST_STOCKS as u32 {

@@ -1,11 +1,11 @@
-//! Storms: one stock's messages come thick and fast, and its price runs to a band.
+//! Storms: one stock gets many messages, and its price runs to a band.
 
 use std::ops::Range;
 
 use generate::chance::Chance;
 use sumpheron::{raw, MOST_STOCKS};
 
-/// A storm turns after at most so many milliseconds, and lasts so many after its turn.
+/// A storm turns after at most LONGEST milliseconds, and ends AFTERMATH milliseconds after its turn.
 const LONGEST: u32 = 40_000;
 const AFTERMATH: u32 = 8_000;
 /// A session's storms, in their order.
@@ -17,11 +17,11 @@ enum Way {
     Fall,
     /// Bids go up to the upper band.
     Rise,
-    /// Bids stay away below the lower band, which lets the primary declare a pause.
+    /// Bids stay below the lower band, so that the primary can declare a pause.
     Widen,
 }
 
-/// It lasts from one time to another, both in milliseconds, and turns in between.
+/// A storm, with its begin, turn and end in milliseconds.
 pub struct Storm {
     pub stock: u32,
     from: u32,
@@ -30,7 +30,7 @@ pub struct Storm {
     way: Way,
 }
 
-/// A session's storms: one in each fifth of it, over some stock.
+/// A session's storms: one in each fifth of the session, each in a random stock.
 pub fn all(chance: &mut Chance, end: u32) -> Vec<Storm> {
     let part = end / WAYS.len() as u32;
     let begins = (0..end).step_by(part as usize);
@@ -56,9 +56,9 @@ impl Storm {
         (self.from..self.to).contains(&time)
     }
 
-    /// The price that it runs to while there are bands: one percent past a band, and after its turn the reference.
+    /// The price that the storm runs to while there are bands: one percent past a band, and after its turn the reference.
     pub fn goal(&self, time: u32, now: &raw::Answer) -> Option<u32> {
-        let past = |band: u64, percent: u64| (band * percent / 100).max(1_000) as u32;
+        let past = |band: u32, percent: u64| (u64::from(band) * percent / 100).max(1_000) as u32;
         match self.way {
             Way::Widen => None,
             _ if time >= self.turn => Some(now.reference),

@@ -1,4 +1,4 @@
-//! What the traffic brings about.
+//! Counts what the traffic causes.
 
 use std::ops::AddAssign;
 
@@ -18,26 +18,26 @@ impl AddAssign for Count {
     }
 }
 
-/// How often each happens, over all stocks.
+/// How often each event happens, over all stocks.
 #[derive(Default)]
 pub struct Tally {
     pub count: Count,
     pub quotes: u64,
     pub trades: u64,
-    /// Limit states that begin, and those of them that end without a pause.
+    /// Limit states that begin, and how many of them end without a pause.
     pub limits: u64,
     pub left: u64,
-    /// Pauses, those of them that the primary declares, and those that it ends.
+    /// Pauses, how many of them the primary declares, and how many it ends.
     pub pauses: u64,
     pub declared: u64,
     pub reopenings: u64,
-    /// The trades that the messages' stocks hold, added up over all messages, and the most.
+    /// The number of trades that a message's stock holds: the sum over all messages, and the maximum.
     pub held: u64,
     pub most_held: u32,
 }
 
 impl Tally {
-    /// A call took a stock from one state to another, or left it in the same.
+    /// Counts a call that took a stock from one state to another, or left its state unchanged.
     pub fn change(&mut self, from: u32, to: u32) {
         let paused = |state| state == PAUSED || state == LATE_PAUSE;
         self.limits += u64::from(from != LIMIT && to == LIMIT);

@@ -1,11 +1,11 @@
-//! How long each of many messages took.
+//! A histogram of message times.
 
 use std::ops::AddAssign;
 
-/// A time from here on is kept by itself.
+/// Times from here on are stored individually.
 const LONG: usize = 1 << 16;
 
-/// How often each number of nanoseconds was seen.
+/// How often each number of nanoseconds occurred.
 pub struct Times {
     counts: Vec<u64>,
     long: Vec<u64>,
@@ -27,7 +27,7 @@ impl Times {
         }
     }
 
-    /// The times in order, each with how often it was seen.
+    /// The times in order, each with how often it occurred.
     fn in_order(&self) -> Vec<(u64, u64)> {
         let short = self.counts.iter().enumerate();
         let mut all: Vec<(u64, u64)> = short.map(|(time, &count)| (time as u64, count)).collect();
@@ -37,7 +37,7 @@ impl Times {
         all
     }
 
-    /// The least time that this share of all, in thousandths, does not exceed.
+    /// The quantile for this share, in thousandths.
     pub fn at(&self, thousandths: u64) -> u64 {
         let all = self.in_order();
         let total: u64 = all.iter().map(|&(_, count)| count).sum();

@@ -4,7 +4,7 @@ use mathlib.Core.Bool.{Bool, true, false}
 use mathlib.Core.Path.{_≡_}
 use Rattle.forms.proofs.Choice.{if-true, if-false}
 use Rattle.band.specs.Band.{percentOf, factorOf, bandsOf}
-use Rattle.band.specs.declared.Limits.{Limits}
+use Rattle.band.specs.declared.Bands.{Bands}
 use Rattle.rules.specs.Quotes.{inForce, kTime, bandsIn}
 use Rattle.rules.specs.States.{noQuotes}
 use Rattle.quotes.specs.Parts.{stockBy}
@@ -13,12 +13,12 @@ use Rattle.quotes.proofs.side.bands_in.Statement.{statement}
 use Rattle.quotes.proofs.side.bands_in.Tie as tie
 
 module _ (b : Basis) (on : Bool) (e : on ≡ inForce (stockBy b noQuotes)) where
-  in-force : (percent time k : ℕ) (bands : Limits) → on ≡ true → percent ≡ percentOf (b .tier) (b .close) → time ≡ kTime (stockBy b noQuotes)
+  in-force : (percent time k : ℕ) (bands : Bands) → on ≡ true → percent ≡ percentOf (b .tier) (b .close) → time ≡ kTime (stockBy b noQuotes)
       → k ≡ factorOf (b .leverage) time (b .end) → bands ≡ bandsOf (b .reference) 1 percent k → bands ≡ bandsIn (stockBy b noQuotes)
   unfolding bandsIn
   in-force percent time k bands z ep et ek eb = simp (eb, ek, ep, et, ← e, z, if-true)
 
-  none : on ≡ false → _≡_ {A = Limits} (record { lower = 0; upper = 0 }) (bandsIn (stockBy b noQuotes))
+  none : on ≡ false → _≡_ {A = Bands} (record { lower = 0; upper = 0 }) (bandsIn (stockBy b noQuotes))
   unfolding bandsIn
   none z = simp (← e, z, if-false)
 

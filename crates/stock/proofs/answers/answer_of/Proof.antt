@@ -1,22 +1,25 @@
 use borrow.Author.Needs.{needs}
-use mathlib.Core.Bool.{Bool, true, false, _||_}
+use mathlib.Core.Bool.{Bool, true, false, _||_, true≢false}
 use mathlib.Core.List.{[], _∷_}
-use mathlib.Core.Path.{_≡_, _∙_}
-use Prim.Native.Nat.{ℕ}
+use mathlib.Core.Path.{_≡_, sym, _∙_}
+use native.Mathlib.Omega.{arith}
+use Prim.Native.Nat.{ℕ, _≤_}
+use borrow.Author.Tests.{eq-eqb}
 use lib.Dec.{eqb}
 use Rattle.forms.specs.Choice.{anyOf}
-use Rattle.forms.proofs.Choice.{if-true, if-false}
+use Rattle.forms.proofs.Choice.{if-true, if-false, any-head}
 use Rattle.forms.proofs.Bools.{joined}
 use Rattle.rules.specs.Numbers.{zeros, answer}
 use Rattle.rules.specs.declared.Answer.{Answer}
 use Rattle.rules.specs.declared.Quotes.{Quotes}
+use Rattle.rules.proofs.Fits.{bands-fit}
 use Rattle.quotes.specs.Parts.{stockOf, basisOf, stockBy}
 use Rattle.quotes.specs.Shown.{shownOf}
 use Rattle.quotes.specs.declared.Basis.{Basis}
 use Rattle.quotes.specs.declared.Kept.{Kept}
 use Rattle.quotes.specs.declared.Shown.{Shown}
 use Rattle.quotes.proofs.Laws.{shown-by}
-use Rattle.stock.specs.Steps.{answerBy}
+use Rattle.stock.specs.Steps.{Fits, answerBy}
 use Rattle.stock.proofs.answers.answer_of.Statement.{statement}
 use Rattle.stock.proofs.answers.answer_of.Tie as tie
 
@@ -24,16 +27,22 @@ module _ (n : ℕ) (k : Kept) (q : Quotes) where
   tested : (b : Bool) → ((eqb n 1 || eqb n 2) || eqb n 3) ≡ b → anyOf (eqb n 1 ∷ eqb n 2 ∷ eqb n 3 ∷ []) ≡ b
   tested b e = let same : anyOf (eqb n 1 ∷ eqb n 2 ∷ eqb n 3 ∷ []) ≡ ((eqb n 1 || eqb n 2) || eqb n 3) = simp joined in same ∙ e
 
-  blank : ((eqb n 1 || eqb n 2) || eqb n 3) ≡ true → zeros n ≡ answer n (stockOf k q)
+  blank : (a : Answer) → ((eqb n 1 || eqb n 2) || eqb n 3) ≡ true → a ≡ zeros n → a ≡ answer n (stockOf k q)
   unfolding answer
-  blank e = simp (tested true e, if-true)
+  blank a e ea = ea ∙ simp (tested true e, if-true)
 
   shown : (b : Basis) (s : Shown) (a : Answer) → ((eqb n 1 || eqb n 2) || eqb n 3) ≡ false → b ≡ basisOf k → s ≡ shownOf (stockBy b q)
       → a ≡ answerBy n k s → a ≡ answer n (stockOf k q)
   unfolding answer
   shown b s a e eb es ea = simp (tested false e, if-false, ea, shown-by k q b s eb es)
 
+  fits : (b : Basis) (s : Shown) → (¬ (n ≡ 1) → k .reference .price ≤ 999_999_999) → ((eqb n 1 || eqb n 2) || eqb n 3) ≡ false → b ≡ basisOf k
+      → s ≡ shownOf (stockBy b q) → Fits s
+  fits b s l e eb es =
+      let is = bands-fit (stockOf k q) (l (λ o. true≢false (sym (eq-eqb n 1 o) ∙ any-head _ _ (tested false e)))) in
+      rw (shown-by k q b s eb es) (omega arith, omega arith)
+
 pub answer-of-spec : {M : Type 1} → statement M
 answer-of-spec =
     tie.close
-    (tie.spec (λ c. search blank) (λ c κs. search needs) (λ c κs. search needs) (λ c κs. search needs) (λ c. search shown))
+    (tie.spec (λ c κs. search needs) (λ c. search blank) (λ c κs. search needs) (λ c κs. search needs) (λ c κs. search fits) (λ c. search shown))

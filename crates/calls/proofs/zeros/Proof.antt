@@ -1,6 +1,0 @@
-use borrow.Author.Needs.{needs}
-use Rattle.calls.proofs.zeros.Statement.{statement}
-use Rattle.calls.proofs.zeros.Tie as tie
-
-pub zeros-spec : {M : Type 1} → statement M
-zeros-spec = tie.close (tie.spec (λ c. search needs))

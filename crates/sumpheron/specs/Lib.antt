@@ -1,0 +1,2 @@
+pub mod Version
+pub mod Laws
