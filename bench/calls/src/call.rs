@@ -30,19 +30,8 @@ impl Call {
 pub struct Given([u32; 9], u32, u32);
 
 impl From<raw::Answer> for Given {
-    fn from(a: raw::Answer) -> Given {
-        let answer = [
-            a.number,
-            a.state,
-            a.reference,
-            a.lower,
-            a.upper,
-            a.bid,
-            a.bid_flag,
-            a.offer,
-            a.offer_flag,
-        ];
-        Given(answer, 0, 0)
+    fn from(answer: raw::Answer) -> Given {
+        Given(answer.numbers(), 0, 0)
     }
 }
 

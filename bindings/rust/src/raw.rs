@@ -72,6 +72,24 @@ pub struct Answer {
     pub offer_flag: u32,
 }
 
+impl Answer {
+    /// Its nine numbers, in the order of the fields.
+    #[must_use]
+    pub const fn numbers(&self) -> [u32; 9] {
+        [
+            self.number,
+            self.state,
+            self.reference,
+            self.lower,
+            self.upper,
+            self.bid,
+            self.bid_flag,
+            self.offer,
+            self.offer_flag,
+        ]
+    }
+}
+
 /// What settling returns.
 #[non_exhaustive]
 #[repr(C)]

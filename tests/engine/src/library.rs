@@ -82,20 +82,11 @@ pub fn numbers(given: &Given) -> Numbers {
     ]
 }
 
-fn noticed(a: raw::Answer, mark: u32, time: u32) -> Numbers {
-    [
-        a.number,
-        a.state,
-        a.reference,
-        a.lower,
-        a.upper,
-        a.bid,
-        a.bid_flag,
-        a.offer,
-        a.offer_flag,
-        mark,
-        time,
-    ]
+fn noticed(answer: raw::Answer, mark: u32, time: u32) -> Numbers {
+    let mut numbers = [0; 11];
+    numbers[..9].copy_from_slice(&answer.numbers());
+    numbers[9..].copy_from_slice(&[mark, time]);
+    numbers
 }
 
 fn upcoming(u: raw::Upcoming) -> Numbers {
