@@ -55,9 +55,9 @@
 extern "C" {
 #endif
 
-/* Incremented whenever a struct or a function changes. Do not mix a header and a library of different versions: the library writes
- * answers of the size that it was built with, and can overrun your struct. */
-#define SUMPHERON_VERSION 2
+/* Incremented whenever a struct, a function or a number changes. Do not mix a header and a library of different versions: the library
+ * writes answers of the size that it was built with, and can overrun your struct. */
+#define SUMPHERON_VERSION 3
 
 /* Marks functions whose result must be used: the compiler warns if a caller ignores it. */
 #if (defined __cplusplus && __cplusplus >= 201703L) || (defined __STDC_VERSION__ && __STDC_VERSION__ >= 202000L)
@@ -120,11 +120,14 @@ enum sumpheron_number {
     SUMPHERON_NOT_PRIMARY = 8,
     /* the stock is Closed */
     SUMPHERON_CLOSED_STOCK = 7,
-    /* the stock's state does not take this message; also an opening at 300,000 or later, and a pause while no side has flag 2
-     * (non-executable) */
+    /* the stock's state does not take this message */
     SUMPHERON_WRONG_STATE = 9,
     /* a trade in a pause */
     SUMPHERON_IN_PAUSE = 11,
+    /* an opening at 300,000 or later, in Waiting */
+    SUMPHERON_TOO_LATE = 15,
+    /* a pause while no side has flag 2 (non-executable), in Trading */
+    SUMPHERON_NO_STRADDLE = 16,
     /* a reopening in the first 300,000 of a pause, or a closing before the session's end */
     SUMPHERON_NOT_YET = 10,
     /* a trade outside the bands in force */
@@ -134,6 +137,9 @@ enum sumpheron_number {
     /* settling: nothing is due */
     SUMPHERON_NOTHING_DUE = 14
 };
+
+/* The highest of these numbers. Every number from 0 to this one is listed. */
+#define SUMPHERON_HIGHEST_NUMBER 16
 
 /* The state of a stock. */
 enum sumpheron_state {
@@ -270,8 +276,9 @@ struct sumpheron_upcoming {
  */
 SUMPHERON_MUST_USE static inline bool sumpheron_may_trade(struct sumpheron_answer answer, uint32_t price)
 {
-    bool stock = answer.number == SUMPHERON_DONE || (answer.number >= SUMPHERON_OUT_OF_RANGE && answer.number <= SUMPHERON_NOTHING_DUE);
-    if (!stock || answer.number == SUMPHERON_UNSETTLED || price < 1 || price > SUMPHERON_HIGHEST_PRICE)
+    bool listed = answer.number <= SUMPHERON_HIGHEST_NUMBER;
+    bool stock = answer.number == SUMPHERON_DONE || answer.number >= SUMPHERON_OUT_OF_RANGE;
+    if (!listed || !stock || answer.number == SUMPHERON_UNSETTLED || price < 1 || price > SUMPHERON_HIGHEST_PRICE)
         return false;
     switch (answer.state) {
     case SUMPHERON_WAITING: return true;
@@ -298,6 +305,8 @@ SUMPHERON_MUST_USE static inline const char *sumpheron_number_name(uint32_t numb
     case SUMPHERON_CLOSED_STOCK: return "the stock is closed";
     case SUMPHERON_WRONG_STATE: return "the state takes no such message";
     case SUMPHERON_IN_PAUSE: return "a trade in a pause";
+    case SUMPHERON_TOO_LATE: return "the opening came too late";
+    case SUMPHERON_NO_STRADDLE: return "a pause while no best quote is outside the bands";
     case SUMPHERON_NOT_YET: return "it is too early to reopen or to close";
     case SUMPHERON_OUTSIDE_BANDS: return "a trade outside the bands";
     case SUMPHERON_NO_ROOM: return "there is no room for a trade";

@@ -29,8 +29,8 @@ static const char *const BY_STATE[] = {
     "no no no no no no no no no no no no"};
 static const char *const NONE = "no no no no no no no no no no no no";
 
-/* Whether prices may trade after each number: not where it is about no stock, nor while a moment is due; the last is not a listed number. */
-static const bool BY_NUMBER[] = {true, false, false, false, true, true, false, true, true, true, true, true, true, true, true, false};
+/* The listed numbers after which no price may trade: those that are about no stock, and the one while a moment is due. */
+static const uint32_t NO_TRADE[] = {SUMPHERON_RUBBISH, SUMPHERON_BAD_SETUP, SUMPHERON_NO_STOCK, SUMPHERON_UNSETTLED};
 
 static struct sumpheron_record book[1], before[1];
 static uint32_t times[SUMPHERON_PLACES], prices[SUMPHERON_PLACES], times_before[SUMPHERON_PLACES], prices_before[SUMPHERON_PLACES];
@@ -67,11 +67,21 @@ static struct sumpheron_answer answered(uint32_t number, uint32_t state)
     return answer;
 }
 
+/* Whether prices may trade after a number. */
+static bool trades(uint32_t number)
+{
+    for (size_t i = 0; i < LENGTH(NO_TRADE); i++)
+        if (number == NO_TRADE[i])
+            return false;
+    return number <= SUMPHERON_HIGHEST_NUMBER;
+}
+
+/* Goes over every listed number and the next one, with every state. */
 static void check_table(void)
 {
-    for (uint32_t number = 0; number < LENGTH(BY_NUMBER); number++) {
+    for (uint32_t number = 0; number <= SUMPHERON_HIGHEST_NUMBER + 1; number++) {
         for (uint32_t state = 0; state < LENGTH(BY_STATE); state++)
-            check(answered(number, state), BY_NUMBER[number] ? BY_STATE[state] : NONE);
+            check(answered(number, state), trades(number) ? BY_STATE[state] : NONE);
         check(answered(number, UINT32_MAX), NONE);
     }
     check(answered(UINT32_MAX, SUMPHERON_WAITING), NONE);
@@ -121,18 +131,24 @@ static struct sumpheron_answer try_trade(uint32_t time, uint32_t price)
     return answer;
 }
 
-/* Checks that a price may trade exactly if the library accepts a trade at it, by an answer that was read and by one in a refusal. */
-static void check_state(uint32_t state, uint32_t time)
+/* Checks that a price may trade by an answer exactly if the library accepts a trade at it. */
+static void check_answer(struct sumpheron_answer answer, uint32_t number, uint32_t time)
 {
-    struct sumpheron_answer now = sumpheron_read(BOOK, 0), refused = try_trade(time, 0);
-    expect("state", now.state, state);
-    expect("refusal", refused.number, SUMPHERON_OUT_OF_RANGE);
+    expect("number", answer.number, number);
     for (size_t i = 0; i < LENGTH(PRICES); i++) {
         bool taken = try_trade(time, PRICES[i]).number == SUMPHERON_DONE;
-        expect("price, by what was read", sumpheron_may_trade(now, PRICES[i]), taken);
-        expect("price, by a refusal", sumpheron_may_trade(refused, PRICES[i]), taken);
-        held += 2;
+        expect(number == SUMPHERON_DONE ? "price, as read" : "price, as refused", sumpheron_may_trade(answer, PRICES[i]), taken);
+        held++;
     }
+}
+
+/* Checks an answer that was read, and one in a refusal. */
+static void check_state(uint32_t state, uint32_t time)
+{
+    struct sumpheron_answer now = sumpheron_read(BOOK, 0);
+    expect("state", now.state, state);
+    check_answer(now, SUMPHERON_DONE, time);
+    check_answer(try_trade(time, 0), SUMPHERON_OUT_OF_RANGE, time);
 }
 
 static void check_states(void)
@@ -156,6 +172,16 @@ static void check_states(void)
     check_state(SUMPHERON_CLOSED, END + 300000);
 }
 
+/* After an opening that came too late the stock still waits, and after a pause without a straddle it still trades. */
+static void check_refusals(void)
+{
+    expect("setup", sumpheron_setup(BOOK, END, SETUP, LENGTH(SETUP)).number, SUMPHERON_DONE);
+    settle(300000);
+    check_answer(sumpheron_opening(BOOK, 0, 300000, PRIMARY, PRICE), SUMPHERON_TOO_LATE, 300000);
+    expect("trade", sumpheron_trade(BOOK, 0, 300000, PRICE).number, SUMPHERON_DONE);
+    check_answer(sumpheron_pause(BOOK, 0, 300000, PRIMARY), SUMPHERON_NO_STRADDLE, 300000);
+}
+
 /* Answers about no stock, whose state reads Waiting. */
 static void check_no_stock(void)
 {
@@ -176,6 +202,7 @@ int main(void)
     check_table();
     check_bands();
     check_states();
+    check_refusals();
     check_no_stock();
     printf("may_trade: %d held, %d faults\n", held, faults);
     return faults == 0 ? 0 : 1;

@@ -4,6 +4,7 @@
 
 #include <inttypes.h>
 #include <stdio.h>
+#include <string.h>
 
 enum { END = 3600000, LATE = END - 600000, PRIMARY = 2, OTHER = 5, PRICE = 115000 };
 enum { STOCKS = SUMPHERON_MOST_STOCKS, SETUPS = STOCKS * SUMPHERON_SETUP_NUMBERS };
@@ -90,6 +91,7 @@ static void play_day(void)
     HOLD(SUMPHERON_TRADING, sumpheron_read(BOOK, 0).state);
     HOLD(SUMPHERON_MARK_V, settle(0, 301000).mark);
     HOLD(SUMPHERON_MARK_H, settle(0, 330000).mark);
+    HOLD(SUMPHERON_NO_STRADDLE, sumpheron_pause(BOOK, 0, 400000, PRIMARY).number);
     a = sumpheron_quote(BOOK, 0, 400000, OTHER, PRICE, ABOVE);
     HOLD(SUMPHERON_FLAG_PLAIN, a.bid_flag);
     HOLD(SUMPHERON_FLAG_NON_EXECUTABLE, a.offer_flag);
@@ -141,6 +143,26 @@ static void check_price(void)
               sumpheron_trade(BOOK, 3, 1000, SUMPHERON_HIGHEST_PRICE + 1), SUMPHERON_OUT_OF_RANGE);
 }
 
+/* Stock 4 is still waiting for its opening at 300,000. */
+static void open_too_late(void)
+{
+    settle(4, 300000);
+    HOLD(SUMPHERON_TOO_LATE, sumpheron_opening(BOOK, 4, 300000, PRIMARY, PRICE).number);
+}
+
+/* Checks that the numbers up to the highest have a name, and those above it have none. */
+static void check_highest(void)
+{
+    held++;
+    for (uint32_t number = 0; number < 1000; number++) {
+        const char *name = sumpheron_number_name(number);
+        if ((strcmp(name, "unknown") != 0) != (number <= SUMPHERON_HIGHEST_NUMBER)) {
+            faults++;
+            printf("names: SUMPHERON_HIGHEST_NUMBER is %d, and the name of %" PRIu32 " is '%s'\n", SUMPHERON_HIGHEST_NUMBER, number, name);
+        }
+    }
+}
+
 int main(void)
 {
     set_up();
@@ -148,6 +170,8 @@ int main(void)
     play_late_pause();
     fill();
     check_price();
+    open_too_late();
+    check_highest();
     printf("names: %d held, %d faults\n", held, faults);
     return faults == 0 ? 0 : 1;
 }

@@ -76,11 +76,14 @@ numbers! {
         NotPrimary = 8, "the participant is not the primary";
         /// The stock is `Closed`.
         ClosedStock = 7, "the stock is closed";
-        /// The stock's state does not take this message; also an opening at 300,000 or later, and a pause while no side is
-        /// `NonExecutable`.
+        /// The stock's state does not take this message.
         WrongState = 9, "the state takes no such message";
         /// A trade in a pause.
         InPause = 11, "a trade in a pause";
+        /// An opening at 300,000 or later, in `Waiting`.
+        TooLate = 15, "the opening came too late";
+        /// A pause while no side is `NonExecutable`, in `Trading`.
+        NoStraddle = 16, "a pause while no best quote is outside the bands";
         /// A reopening in the first 300,000 of a pause, or a closing before the session's end.
         NotYet = 10, "it is too early to reopen or to close";
         /// A trade outside the bands in force.

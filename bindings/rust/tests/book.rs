@@ -112,6 +112,49 @@ fn refusals_change_nothing() {
 }
 
 #[test]
+fn an_opening_that_is_refused_says_why() {
+    let mut book = book();
+    assert!(book.clone().opening(0, 299_999, 2, 115_000).is_ok());
+    book.settle_all(0, 300_000, |_| ()).unwrap();
+    let before = book.clone();
+    let other = book.opening(0, 300_000, 5, 115_000);
+    assert_eq!(number(other), Number::NotPrimary);
+    let refusal = book.opening(0, 300_000, 2, 115_000).unwrap_err();
+    assert_eq!(refusal.number, Number::TooLate);
+    assert_eq!(refusal.to_string(), "the opening came too late");
+    assert_eq!(refusal.answer, before.read(0).ok());
+    assert_eq!(book, before);
+
+    // Once a trade has started the stock, its state is the reason.
+    book.trade(0, 300_000, 115_000).unwrap();
+    let started = book.opening(0, 300_000, 2, 115_000);
+    assert_eq!(number(started), Number::WrongState);
+}
+
+#[test]
+fn a_pause_that_is_refused_says_why() {
+    let mut book = trading();
+    assert!(book.clone().pause(0, 3_000, 2).is_ok());
+    book.quote(0, 3_000, 5, 114_900, 138_000).unwrap();
+    let before = book.clone();
+    assert_eq!(number(book.pause(0, 3_000, 5)), Number::NotPrimary);
+    let refusal = book.pause(0, 3_000, 2).unwrap_err();
+    assert_eq!(refusal.number, Number::NoStraddle);
+    assert_eq!(
+        refusal.to_string(),
+        "a pause while no best quote is outside the bands"
+    );
+    assert_eq!(refusal.answer, before.read(0).ok());
+    assert_eq!(book, before);
+
+    // In a limit state the state is the reason, even if a best quote is outside the bands.
+    let limit = book.quote(0, 4_000, 5, 138_000, 138_001).unwrap();
+    assert_eq!(limit.state, State::Limit);
+    assert_eq!(limit.offer.unwrap().flag, Flag::NonExecutable);
+    assert_eq!(number(book.pause(0, 4_000, 2)), Number::WrongState);
+}
+
+#[test]
 fn a_clone_is_a_snapshot() {
     let mut book = trading();
     let snapshot = book.clone();
@@ -281,8 +324,8 @@ fn every_name_is_displayed() {
     assert_eq!(Mark::from(0).to_string(), "none");
     assert_eq!(Number::from(3).to_string(), "there is no such stock");
     assert_eq!(
-        format!("{:>5}|{:<7}|", Number::from(15), Flag::Plain),
-        "   15|plain  |"
+        format!("{:>5}|{:<7}|", Number::from(999), Flag::Plain),
+        "  999|plain  |"
     );
 }
 
@@ -300,9 +343,9 @@ fn an_answer_of_a_later_version_is_read() {
     assert_eq!(notice.mark, Mark::Unknown(u32::MAX));
 
     // An unknown number may be about no stock, so there is no answer.
-    raw.answer.number = 17;
+    raw.answer.number = u32::MAX;
     let refusal = Notice::try_from(raw).unwrap_err();
-    assert_eq!(refusal.number, Number::Unknown(17));
+    assert_eq!(refusal.number, Number::Unknown(u32::MAX));
     assert_eq!(refusal.answer, None);
 }
 

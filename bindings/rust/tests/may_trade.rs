@@ -40,10 +40,12 @@ const BETWEEN: &[u32] = &[92_000, 92_001, 137_999, 138_000];
 
 /// Which of PRICES may trade in each state; the last row is for a number that is no state.
 const BY_STATE: [&[u32]; 7] = [ALL, BETWEEN, BETWEEN, &[], &[], &[], &[]];
-/// Whether prices may trade after each number: not where it is about no stock, nor while a moment is due; the last is not a listed number.
-const BY_NUMBER: [bool; 16] = [
-    true, false, false, false, true, true, false, true, true, true, true, true, true, true, true,
-    false,
+/// The named numbers after which no price may trade: those that are about no stock, and the one while a moment is due.
+const NO_TRADE: [Number; 4] = [
+    Number::Rubbish,
+    Number::BadSetup,
+    Number::NoStock,
+    Number::Unsettled,
 ];
 
 /// What an answer says of each price, both as a result and in a refusal.
@@ -57,12 +59,14 @@ fn allowed(raw: raw::Answer) -> Vec<u32> {
 
 #[test]
 fn every_number_and_every_state_is_as_the_table_says() {
-    for (number, stock) in (0..).zip(BY_NUMBER).chain([(u32::MAX, false)]) {
+    for number in (0..100).chain([u32::MAX]) {
+        let name = Number::from(number);
+        let trades = name != Number::Unknown(number) && !NO_TRADE.contains(&name);
         for (state, prices) in (0..).zip(BY_STATE).chain([(u32::MAX, &[][..])]) {
             let mut raw = raw::Answer::default();
             (raw.number, raw.state) = (number, state);
             (raw.lower, raw.upper) = (LOWER, UPPER);
-            let wanted = if stock { prices } else { &[] };
+            let wanted = if trades { prices } else { &[] };
             assert_eq!(allowed(raw), wanted, "number {number}, state {state}");
         }
     }

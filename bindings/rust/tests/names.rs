@@ -86,6 +86,7 @@ fn play_day(book: &mut Book, held: &mut Held) {
     held.hold(State::Trading, state(book));
     held.hold(Mark::V, settle(book, 0, 301_000));
     held.hold(Mark::H, settle(book, 0, 330_000));
+    held.hold(Number::NoStraddle, number(book.pause(0, 400_000, PRIMARY)));
     let quoted = book.quote(0, 400_000, OTHER, PRICE, ABOVE).unwrap();
     held.hold(Flag::Plain, quoted.bid.unwrap().flag);
     held.hold(Flag::NonExecutable, quoted.offer.unwrap().flag);
@@ -142,6 +143,10 @@ fn every_name_is_what_the_library_gives() {
         full.trade(0, 1_000, PRICE).unwrap();
     }
     held.hold(Number::NoRoom, number(full.trade(0, 1_000, PRICE)));
+    let mut waiting = Book::new(END, &[SETUP]).unwrap();
+    settle(&mut waiting, 0, 300_000);
+    let opening = waiting.opening(0, 300_000, PRIMARY, PRICE);
+    held.hold(Number::TooLate, number(opening));
 
     let names = [
         named(Number::Unknown),

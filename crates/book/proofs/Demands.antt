@@ -22,6 +22,7 @@ use Rattle.book.proofs.Alike.{alike}
 use Rattle.book.proofs.After.{after-setup}
 use Rattle.book.proofs.Copies.{copied}
 use Rattle.book.proofs.Entries.{journals-grow}
+use Rattle.book.proofs.Reasons.{reasons}
 use Rattle.book.proofs.Replay.{recovery}
 use Rattle.book.proofs.Wrong.{silent-fails, refusing-fails, fixed-fails, leaving-fails, acknowledging-fails, blind-fails, unaware-fails}
 
@@ -67,6 +68,7 @@ demand1 = record {
 pub demands : Demands
 demands = record {
   demand1 = demand1;
+  reasons = reasons;
   demand2 = demand2;
   demand3 = alike;
   after-setup = after-setup;

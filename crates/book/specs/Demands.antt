@@ -5,6 +5,7 @@
 -- Assumes nothing.
 use Prim.Native.Nat.{ℕ, _*_, _≤_, _<_}
 use mathlib.Core.List.{List, [], _∷_, _++_, map}
+use mathlib.Core.Logic.{_↔_}
 use mathlib.Core.Path.{_≡_}
 use lib.Dec.{eqb}
 use lib.ListN.{length}
@@ -15,12 +16,13 @@ use Rattle.rules.specs.Stock.{Whole}
 use Rattle.rules.specs.Machine.{Call, tell, settle, Calls, Every, journal, IsJournal, stepIn, run}
 use Rattle.rules.specs.Book.{machine, blank, book, bookTells, bookSettles, bookReads, bookNext}
 use Rattle.rules.specs.Numbers.{zeros, fresh, afterTelling, afterSettling, tellAnswer, settleAnswer, noneComing, noNotice}
-use Rattle.rules.specs.Words.{refusals, settleRefusals, readRefusals, ShowsNothing}
+use Rattle.rules.specs.Words.{refusals, settleRefusals, readRefusals, ReachesTable, WrongState, TooLate, NoStraddle, ShowsNothing}
 use Rattle.rules.specs.declared.Answer.{Answer}
 use Rattle.rules.specs.declared.Message.{Message}
 use Rattle.rules.specs.declared.Notice.{Notice}
 use Rattle.rules.specs.declared.Upcoming.{Upcoming}
 use Rattle.rules.specs.declared.Setup.{Setup}
+use Rattle.rules.specs.declared.Stock.{Stock}
 use Rattle.stock.specs.View.{Bytes, telling, settling, Tells, Settles}
 use Rattle.calls.specs.Setup.{setupsOf}
 use Rattle.calls.specs.Words.{setupIn}
@@ -105,6 +107,18 @@ pub record Demand1 (𝓕 : Family) : Type 0 where
   pub setup-leaves : SetupLeaves 𝓕
   pub tell-leaves : (i : ℕ) (m : Message) (b : Lent) (a : Answer) (b′ : Lent) → 𝓕 .Tell i m b a b′ → ¬ (a .number ≡ 0) → b′ ≡ b
   pub settle-leaves : (i time : ℕ) (b : Lent) (a : Notice) (b′ : Lent) → 𝓕 .Settle i time b a b′ → ¬ (a .answer .number ≡ 0) → b′ ≡ b
+
+-- For any bytes, a message to stock i is answered n exactly where the book has the right shape and that stock, no check before the table of
+-- message by state applies, and these words hold for the stock that the bytes mean.
+abbrev pub RefusedFor : Family → ℕ → (Stock → Message → Type 0) → Type 0
+RefusedFor 𝓕 n Words = (i : ℕ) (m : Message) (b : Lent) (a : Answer) (b′ : Lent) (h : Whole) → 𝓕 .Tell i m b a b′ → Means i b h
+    → (a .number ≡ n) ↔ (InShape b and i < length (b .records) and ReachesTable m h and Words (h .stock) m)
+
+-- 9 is for a wrong state, 15 for an opening at 300,000 or later, 16 for a pause without straddle.
+pub record Reasons (𝓕 : Family) : Type 0 where
+  pub wrong-state : RefusedFor 𝓕 9 WrongState
+  pub too-late : RefusedFor 𝓕 15 TooLate
+  pub no-straddle : RefusedFor 𝓕 16 NoStraddle
 
 -- ------------------------------------------------------------------ demand 2
 
@@ -364,6 +378,7 @@ Copied = (i j : ℕ) (cs ds : List Made) (b b′ c c′ : Lent)
 
 pub record Demands : Type 1 where
   pub demand1 : Demand1 ours
+  pub reasons : (𝓕 : Family) → Demand1 𝓕 → Reasons 𝓕
   pub demand2 : Demand2 ours
   pub demand3 : (𝓕 : Family) → Demand2 𝓕 → Demand3 𝓕
   pub after-setup : (𝓕 : Family) → Demand2 𝓕 → AfterSetup 𝓕

@@ -3,7 +3,7 @@
 use Prim.Native.Nat.{ℕ, zero, suc, _≤_, _<_}
 use mathlib.Core.Bool.{Bool, true, false, not, _&&_, _||_, false≢true, true≢false}
 use mathlib.Core.List.{List, [], _∷_, _++_, foldl}
-use mathlib.Core.Logic.{_⊎_, inl, inr, ⊎-map, _↔_}
+use mathlib.Core.Logic.{_⊎_, inl, inr, ⊎-map, ⊎-elim, _↔_}
 use mathlib.Core.Path.{_≡_, refl, sym, _∙_, subst}
 use native.Mathlib.Nat.{le-of-suc-le-suc, not-suc-le-zero}
 use native.Mathlib.Omega.{arith}
@@ -296,6 +296,26 @@ unfolding Gives
 listed [] n e = inl e
 listed (k for P ∷ rest) n (inl p) = inr (inl (p .1))
 listed (k for P ∷ rest) n (inr p) = ⊎-map (λ z. z) inr (listed rest n (p .1))
+
+-- so it is no number that the table does not have
+pub not-given : (ns : List Number) (n : ℕ) → has (0 ∷ numbersIn ns) n ≡ false → ¬ Gives ns n
+not-given ns n none g = not-among (0 ∷ numbersIn ns) n n refl none (listed ns n g)
+
+-- no row's words hold
+abbrev pub None : List Number → Type 0
+None [] = Unit {0}
+None (k for P ∷ rest) = (¬ P) × None rest
+
+-- a number of one row only is given exactly where this row's words hold, and those of no row above it
+pub once : (above : List Number) (n : ℕ) (P : Type 0) (rest : List Number) → has (numbersIn above) n ≡ false → has (0 ∷ numbersIn rest) n ≡ false
+    → Gives (above ++ (n for P ∷ rest)) n ↔ (None above × P)
+once [] n P rest a b = ((λ g. (tt, ⊎-elim (λ k. k .0) (λ k. absurd (not-given rest n b (k .1))) (first-or-rest n n P rest g))), (λ k. take n n P rest (k .1) refl))
+once (k for Q ∷ above) n P rest a b =
+    let other = neither (eqb n k) _ a in
+    let below = once above n P rest (other .1) b in (
+      (λ g. let p = past k n Q _ (eqb-false n k (other .0)) g in let q = below .0 (p .1) in ((p .0, q .0), q .1)),
+      (λ x. skip k n Q _ (x .0 .0) (below .1 (x .0 .1, x .1))),
+    )
 
 -- ------------------------------------------------------------------ a table of cells, by computation
 

@@ -20,11 +20,12 @@ use rules::LAST_PARTICIPANT;
 use rules::MOST_TRADES;
 use rules::Message;
 use rules::NO_ROOM;
+use rules::NO_STRADDLE;
 use rules::NOT_YET;
 use rules::OUTSIDE_BANDS;
 use rules::Quotes;
 use rules::SHORTEST_PAUSE;
-use rules::WRONG_STATE;
+use rules::TOO_LATE;
 
 // The message's row of the table.
 pub(crate) fn kind_of(m: Message) -> usize
@@ -140,8 +141,8 @@ pub(crate) fn own_refusal(m: Message, held: u32, k: Kept, q: Quotes) -> u32
     match m {
         Message::Trade { price, .. } => trade_refusal(price, held, k),
         Message::Quote { .. } => DONE,
-        Message::Opening { time, .. } => last_check(WRONG_STATE, FIRST_FIVE <= time),
-        Message::Pause { .. } => last_check(WRONG_STATE, !is_straddle(k, q)),
+        Message::Opening { time, .. } => last_check(TOO_LATE, FIRST_FIVE <= time),
+        Message::Pause { .. } => last_check(NO_STRADDLE, !is_straddle(k, q)),
         Message::Reopening { time, .. } => last_check(
             NOT_YET,
             (time as u64) < pause + SHORTEST_PAUSE,

@@ -21,6 +21,7 @@ use Rattle.rules.proofs.Next.{next-is, book-next, next-settles}
 use Rattle.rules.proofs.Numbers.{numbers, setup-numbers}
 use Rattle.rules.proofs.Only.{changes-only}
 use Rattle.rules.proofs.Pauses.{dates, pauses}
+use Rattle.rules.proofs.Reasons.{wrong-state, too-late, no-straddle}
 use Rattle.rules.proofs.Resumes.{resumes, never-again}
 use Rattle.rules.proofs.Since.{reference-since}
 use Rattle.rules.proofs.Sound.{never-rubbish}
@@ -34,6 +35,9 @@ demands = record {
   book-numbers = book-numbers;
   setup-numbers = setup-numbers;
   listed = listed;
+  wrong-state = wrong-state;
+  too-late = too-late;
+  no-straddle = no-straddle;
   calls-leave = calls-leave;
   shows = shows;
   fit = fit;

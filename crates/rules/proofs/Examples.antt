@@ -15,7 +15,7 @@ use Rattle.rules.specs.Numbers.{notPrice, badEnd, badSetup, badTimes, or
 use Rattle.rules.specs.Machine.{numberIn, stepIn}
 use Rattle.rules.specs.Book.{bookTells, bookSettles, bookNext}
 use Rattle.rules.specs.Examples.{right, byHand}
-use Rattle.rules.specs.Days.{line, printed, sameNumbers, sameLines, asPrinted, theDay, limitAgain, theLooks, offerStraddle, theFlags, openedByF, theTest, theTies, narrowed, aLimit, byTheClose, noOpening, oneMillisecond, aLatePause, aPause, aStraddle, days}
+use Rattle.rules.specs.Days.{line, printed, sameNumbers, sameLines, asPrinted, days}
 use Rattle.rules.specs.Edges.{asAnswered, edges}
 use Rattle.rules.specs.Demands.{ByHand, AsPrinted, AtEdges}
 
@@ -24,7 +24,7 @@ unfolding if_then_else_ allOf anyOf every percentOf factorOf spreadOf cent lower
 by-hand = refl
 
 pub as-printed : AsPrinted
-unfolding if_then_else_ allOf anyOf first every percentOf factorOf spreadOf cent lowerOf upperOf bandsOf meanOf distance movesOf total oldest figuresOf staying inForce kTime bandsIn higher lesser bestBid bestOffer bidFlag offerFlag bestOf flagged crossed look begin-trading leave test begin-pause shut momentTable sooner earliest next dueBy pastAt first-five effect windowAfter come taken tradeRules quoteRules does after notPrice badEnd badSetup badTimes orNotSide badQuotes badReference badTrade see badTrades badStock rubbish outOfRange notPrimary outside ownChecks messageChecks checks tells timeChecks settleChecks settles answer afterTelling afterSettling tellAnswer settleAnswer fresh line callChecks badShape fire notice numberIn stepIn bookTells bookSettles printed sameNumbers sameLines asPrinted theDay limitAgain theLooks offerStraddle theFlags openedByF theTest theTies narrowed aLimit byTheClose noOpening oneMillisecond aLatePause aPause aStraddle days
+unfolding if_then_else_ allOf anyOf first every percentOf factorOf spreadOf cent lowerOf upperOf bandsOf meanOf distance movesOf total oldest figuresOf staying inForce kTime bandsIn higher lesser bestBid bestOffer bidFlag offerFlag bestOf flagged crossed look begin-trading leave test begin-pause shut momentTable sooner earliest next dueBy pastAt first-five effect windowAfter come taken tradeRules quoteRules does after notPrice badEnd badSetup badTimes orNotSide badQuotes badReference badTrade see badTrades badStock rubbish outOfRange notPrimary outside ownChecks messageChecks checks tells timeChecks settleChecks settles answer afterTelling afterSettling tellAnswer settleAnswer fresh line callChecks badShape fire notice numberIn stepIn bookTells bookSettles printed sameNumbers sameLines asPrinted days
 as-printed = refl
 
 pub at-edges : AtEdges

@@ -3,7 +3,7 @@
 use Prim.Native.Nat.{ℕ, _≤_, _<_}
 use mathlib.Core.List.{List, [], _∷_}
 use mathlib.Core.Logic.{_⊎_, inl, inr, ⊎-elim}
-use mathlib.Core.Path.{_≡_, refl, ap}
+use mathlib.Core.Path.{_≡_, refl, sym, ap, subst}
 use native.Mathlib.Omega.{arith}
 use borrow.Author.Tests.{ne-eqb, eq-eqb}
 use lib.ListN.{length}
@@ -20,7 +20,7 @@ use Rattle.rules.specs.Moments.{nextOf}
 use Rattle.rules.specs.Numbers.{tells, settles, reads, zeros, answer, notice, tellAnswer, settleAnswer, readAnswer, nextAnswer}
 use Rattle.rules.specs.Machine.{Every, Event, message, moment, becomes}
 use Rattle.rules.specs.Book.{machine}
-use Rattle.rules.specs.Words.{IsSide, moments, itsMoment, BadQuote, Rubbish, BidShown, OfferShown, refusals, settleRefusals, readRefusals, AnswerInRange, NoticeInRange, UpcomingInRange}
+use Rattle.rules.specs.Words.{IsSide, moments, itsMoment, BadQuote, Rubbish, BidShown, OfferShown, refusals, settleRefusals, readRefusals, IsNumber, AnswerInRange, NoticeInRange, UpcomingInRange}
 use Rattle.rules.specs.Demands.{CanHappen, AnswersFit}
 use Rattle.rules.specs.declared.Stock.{Stock}
 use Rattle.rules.specs.declared.Side.{Side}
@@ -55,10 +55,10 @@ record InRange (s : Stock) : Type 0 where
   price : IsSide (s .reference .price)
   quotes : SaneQuotes (s .quotes)
 
--- one of a list whose numbers are in range
-one-side : (l : List ℕ) (n : ℕ) → Every IsSide l → IsOneOf n l → IsSide n
-one-side (x ∷ l) n a (inl q) = omega (arith, a .0)
-one-side (x ∷ l) n a (inr m) = one-side l n (a .1) m
+-- what holds for every number of a list holds for one of them
+one-of : (Holds : ℕ → Type 0) (n : ℕ) (l : List ℕ) → Every Holds l → IsOneOf n l → Holds n
+one-of Holds n (k ∷ l) a (inl q) = subst Holds (sym q) (a .0)
+one-of Holds n (k ∷ l) a (inr m) = one-of Holds n l (a .1) m
 
 every-side : (l : List ℕ) → ¬ Some (λ side. ¬ IsSide side) l → Every IsSide l
 every-side [] n = tt
@@ -85,23 +85,18 @@ later h e v i = record { state = state-sane h e v (i .state) .0; price = price-a
 abbrev SideFits : Side → Type 0
 SideFits side = IsSide (side .price) × (side .flag ≤ 3)
 
--- one of a list of numbers that are all at most `most`
-at-most : (most n : ℕ) (l : List ℕ) → Every (λ k. k ≤ most) l → IsOneOf n l → n ≤ most
-at-most most n (k ∷ l) a (inl q) = omega (arith, a .0)
-at-most most n (k ∷ l) a (inr m) = at-most most n l (a .1) m
-
 bid-fits : (s : Stock) (side : Side) → SaneQuotes (s .quotes) → BidShown s side → SideFits side
 bid-fits s side i (inl (_, (p, f))) = (omega (arith, p), omega (arith, f))
-bid-fits s side i (inr (b, g)) = (one-side (s .quotes .bids) _ (i .sides .0) (b .0), at-most 3 _ (0 ∷ 2 ∷ 3 ∷ 1 ∷ []) (omega arith) (listed _ _ g))
+bid-fits s side i (inr (b, g)) = (one-of IsSide _ (s .quotes .bids) (i .sides .0) (b .0), one-of (λ k. k ≤ 3) _ (0 ∷ 2 ∷ 3 ∷ 1 ∷ []) (omega arith) (listed _ _ g))
 
 offer-fits : (s : Stock) (side : Side) → SaneQuotes (s .quotes) → OfferShown s side → SideFits side
 offer-fits s side i (inl (_, (p, f))) = (omega (arith, p), omega (arith, f))
-offer-fits s side i (inr (o, g)) = (one-side (s .quotes .offers) _ (i .sides .1) (o .0), at-most 3 _ (0 ∷ 2 ∷ 3 ∷ 1 ∷ []) (omega arith) (listed _ _ g))
+offer-fits s side i (inr (o, g)) = (one-of IsSide _ (s .quotes .offers) (i .sides .1) (o .0), one-of (λ k. k ≤ 3) _ (0 ∷ 2 ∷ 3 ∷ 1 ∷ []) (omega arith) (listed _ _ g))
 
-zeros-fit : (n : ℕ) → n ≤ 14 → AnswerInRange (zeros n)
+zeros-fit : (n : ℕ) → IsNumber n → AnswerInRange (zeros n)
 zeros-fit n l = (l, omega arith)
 
-answer-fits : (n : ℕ) (s : Stock) → n ≤ 14 → InRange s → AnswerInRange (answer n s)
+answer-fits : (n : ℕ) (s : Stock) → IsNumber n → InRange s → AnswerInRange (answer n s)
 unfolding answer
 answer-fits n s l i =
     let b = bands-fit s (i .price) in
@@ -113,7 +108,7 @@ answer-fits n s l i =
 
 -- ------------------------------------------------------------------ each call
 
-numbers-most : (m : Message) (h : Whole) → Every (λ k. k ≤ 14) (0 ∷ numbersIn (refusals m h))
+numbers-most : (m : Message) (h : Whole) → Every IsNumber (0 ∷ numbersIn (refusals m h))
 numbers-most (T time price) h = omega arith
 numbers-most (Q time participant bid offer) h = omega arith
 numbers-most (O time participant price) h = omega arith
@@ -128,14 +123,14 @@ one-fits s = zeros-fit 1 (omega arith)
 
 module _ (h : Whole) (bids : length (h .stock .quotes .bids) ≡ 16) (offers : length (h .stock .quotes .offers) ≡ 16) where
   -- of a refused call, and of a reading
-  stands : (n : ℕ) → n ≤ 14 → (¬ (n ≡ 1) → ¬ Rubbish h) → AnswerInRange (answer n (h .stock))
+  stands : (n : ℕ) → IsNumber n → (¬ (n ≡ 1) → ¬ Rubbish h) → AnswerInRange (answer n (h .stock))
   stands n l k = ⊎-elim (λ e. rw e (one-fits _)) (λ z. answer-fits n _ l (found h (k z) bids offers)) (either-way _ (by-eq n 1))
 
   tell-fits : (m : Message) → AnswerInRange (tellAnswer m h)
   unfolding tellAnswer
   tell-fits m = ⊎-elim
       (λ e. rw (calls-leave h .0 m .0 e, e) (answer-fits 0 _ (omega arith) (later h (message m) (e, tt) (found h (sound h (message m) (e, tt)) bids offers))))
-      (λ z. rw (calls-leave h .0 m .1 z) (stands (tells m h) (at-most 14 _ (0 ∷ numbersIn (refusals m h)) (numbers-most m h) (listed _ _ (told m h))) (λ k. past 1 _ _ _ k (told m h) .0)))
+      (λ z. rw (calls-leave h .0 m .1 z) (stands (tells m h) (one-of IsNumber _ (0 ∷ numbersIn (refusals m h)) (numbers-most m h) (listed _ _ (told m h))) (λ k. past 1 _ _ _ k (told m h) .0)))
       (either-way _ (by-eq (tells m h) 0))
 
   settle-fits : (time : ℕ) → (settles time h ≡ 0) ⊎ (¬ (settles time h ≡ 0)) → NoticeInRange (settleAnswer time h)
@@ -149,20 +144,20 @@ module _ (h : Whole) (bids : length (h .stock .quotes .bids) ≡ 16) (offers : l
         (by-mark _ (itsMoment (notice h)) (moments h) (moments-are h (notice h) v) (omega arith), omega (arith, until-last h (moment (notice h)) v, end)),
       )
   settle-fits time (inr z) = rw (if-false _ (notice h) _ (ne-eqb (settles time h) 0 z)) (
-    stands (settles time h) (at-most 14 _ (0 ∷ numbersIn (settleRefusals time h)) (omega arith) (listed _ _ (settled time h))) (λ k. past 1 _ _ _ k (settled time h) .0),
+    stands (settles time h) (one-of IsNumber _ (0 ∷ numbersIn (settleRefusals time h)) (omega arith) (listed _ _ (settled time h))) (λ k. past 1 _ _ _ k (settled time h) .0),
     omega arith,
   )
 
   read-fits : AnswerInRange (readAnswer h)
   unfolding readAnswer
-  read-fits = stands (reads h) (at-most 14 _ (0 ∷ numbersIn (readRefusals h)) (omega arith) (listed _ _ (was-read h))) (λ k. past 1 _ _ _ k (was-read h) .0)
+  read-fits = stands (reads h) (one-of IsNumber _ (0 ∷ numbersIn (readRefusals h)) (omega arith) (listed _ _ (was-read h))) (λ k. past 1 _ _ _ k (was-read h) .0)
 
 -- the moment that is to come is one of the table, and no later than E + 300,000
 next-in-range : (h : Whole) → UpcomingInRange (nextAnswer h)
 unfolding nextAnswer
 next-in-range h = ⊎-elim
     (λ e. rw (if-true _ _ _ (eq-eqb (reads h) 0 e)) (go (past 1 0 _ _ (λ z. omega arith) (numbers h 0 .2 .0 e) .0) (next-foremost h)))
-    (λ n. rw (if-false _ _ _ (ne-eqb (reads h) 0 n)) (at-most 14 _ (0 ∷ numbersIn (readRefusals h)) (omega arith) (listed _ _ (was-read h)), omega arith))
+    (λ n. rw (if-false _ _ _ (ne-eqb (reads h) 0 n)) (one-of IsNumber _ (0 ∷ numbersIn (readRefusals h)) (omega arith) (listed _ _ (was-read h)), omega arith))
     (either-way _ (by-eq (reads h) 0))
   where
     go : ¬ Rubbish h → Foremost (nextOf h) (moments h) → UpcomingInRange (record { number = 0; mark = nextOf h .mark; time = nextOf h .time })

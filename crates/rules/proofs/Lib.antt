@@ -28,6 +28,7 @@ pub mod BestQuotes
 pub mod Ranges
 pub mod Coming
 pub mod Numbers
+pub mod Reasons
 pub mod Answers
 pub mod Next
 pub mod Means

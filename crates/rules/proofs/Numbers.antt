@@ -1,9 +1,9 @@
 -- Every call gives the number that the words give, and no other.
 -- Assumes nothing.
 use Prim.Native.Nat.{ℕ, _≤_, _<_}
-use mathlib.Core.Bool.{true, false, not}
+use mathlib.Core.Bool.{true, not}
 use mathlib.Core.List.{List, [], _∷_}
-use mathlib.Core.Logic.{inl, inr, ⊎-elim}
+use mathlib.Core.Logic.{inl, inr}
 use mathlib.Core.Path.{_≡_, refl}
 use native.Mathlib.Omega.{arith}
 use lib.Dec.{eqb}
@@ -13,7 +13,7 @@ use Rattle.forms.specs.Checks.{first}
 use Rattle.forms.specs.Checks.Check.{_when_}
 use Rattle.forms.specs.Words.{_or_, Number, Gives}
 use Rattle.forms.specs.Words.Number.{_for_}
-use Rattle.forms.proofs.Decides.{Decides, words, eq-stable, by-lt, row, passed-over, own-table, choices, numbers as tables, exactly, listed, first-or-rest, past, below, cells, numbersIn, has, not-among}
+use Rattle.forms.proofs.Decides.{Decides, words, eq-stable, by-lt, row, passed-over, own-table, choices, numbers as tables, exactly, past, once, below, cells}
 use Rattle.rules.specs.Stock.{Whole, Waiting, Trading, Limit, Paused, Late, Closed, stateOf}
 use Rattle.rules.specs.Messages.{kind, timeOf, taken}
 use Rattle.rules.specs.Numbers.{rubbish, notPrimary, ownChecks, tableCheck, messageChecks, checks, tells, timeChecks, settleChecks, settles, readChecks, reads, setupChecks, setsUp}
@@ -167,20 +167,16 @@ takes-in m h e = go m (taken-words m h e .own-passed)
 
 -- ------------------------------------------------------------------ where a call on a stock gives 1
 
--- the rows behind the first do not give it
-only-first : (n : ℕ) (A : Type 0) (rest : List Number) → has (0 ∷ numbersIn rest) n ≡ false → Gives (n for A ∷ rest) n → A
-only-first n A rest none g = ⊎-elim (λ k. k .0) (λ k. absurd (not-among (0 ∷ numbersIn rest) n n refl none (listed rest n (k .1)))) (first-or-rest n n A rest g)
-
 pub told-1 : (m : Message) (h : Whole) → tells m h ≡ 1 → Rubbish h
-told-1 (T time price) h e = only-first 1 _ _ refl (numbers h 1 .0 (T time price) .0 e)
-told-1 (Q time participant bid offer) h e = only-first 1 _ _ refl (numbers h 1 .0 (Q time participant bid offer) .0 e)
-told-1 (O time participant price) h e = only-first 1 _ _ refl (numbers h 1 .0 (O time participant price) .0 e)
-told-1 (P time participant) h e = only-first 1 _ _ refl (numbers h 1 .0 (P time participant) .0 e)
-told-1 (R time participant price) h e = only-first 1 _ _ refl (numbers h 1 .0 (R time participant price) .0 e)
-told-1 (X time participant price) h e = only-first 1 _ _ refl (numbers h 1 .0 (X time participant price) .0 e)
+told-1 (T time price) h e = once [] 1 _ _ refl refl .0 (numbers h 1 .0 (T time price) .0 e) .1
+told-1 (Q time participant bid offer) h e = once [] 1 _ _ refl refl .0 (numbers h 1 .0 (Q time participant bid offer) .0 e) .1
+told-1 (O time participant price) h e = once [] 1 _ _ refl refl .0 (numbers h 1 .0 (O time participant price) .0 e) .1
+told-1 (P time participant) h e = once [] 1 _ _ refl refl .0 (numbers h 1 .0 (P time participant) .0 e) .1
+told-1 (R time participant price) h e = once [] 1 _ _ refl refl .0 (numbers h 1 .0 (R time participant price) .0 e) .1
+told-1 (X time participant price) h e = once [] 1 _ _ refl refl .0 (numbers h 1 .0 (X time participant price) .0 e) .1
 
 pub settled-1 : (time : ℕ) (h : Whole) → settles time h ≡ 1 → Rubbish h
-settled-1 time h e = only-first 1 _ _ refl (numbers h 1 .1 time .0 e)
+settled-1 time h e = once [] 1 _ _ refl refl .0 (numbers h 1 .1 time .0 e) .1
 
 pub read-1 : (h : Whole) → reads h ≡ 1 → Rubbish h
-read-1 h e = only-first 1 _ _ refl (numbers h 1 .2 .0 e)
+read-1 h e = once [] 1 _ _ refl refl .0 (numbers h 1 .2 .0 e) .1

@@ -64,7 +64,7 @@ abbrev pub listed : ℕ → Setup
 listed tier = record { tier = tier; leverage = 1; primary = 2; close = 115_000 }
 
 -- document 01's day
-unfoldable pub theDay : Day
+abbrev pub theDay : Day
 theDay = record {
   end = 23_400_000;
   setup = listed 2;
@@ -96,7 +96,7 @@ theDay = record {
 
 -- a stay in Limit: a bid across the limit offer does not end it, w does not move its bands, a trade only joins; leaving it takes the
 -- mean, with the k of now and a new hold
-unfoldable pub aLimit : Day
+abbrev pub aLimit : Day
 aLimit = record {
   end = 23_400_000;
   setup = listed 2;
@@ -124,7 +124,7 @@ aLimit = record {
 }
 
 -- the close decides the percent, whatever the reference; a message from another exchange is answered 8, before the table's 9
-unfoldable pub byTheClose : Day
+abbrev pub byTheClose : Day
 byTheClose = record {
   end = 23_400_000;
   setup = listed 1;
@@ -136,31 +136,35 @@ byTheClose = record {
       [];
 }
 
--- a trade of time 0 leaves by v before f in the same millisecond; f happens with an empty window too; an opening is then too late, and
--- the next trade opens, with a look at the quotes
-unfoldable pub noOpening : Day
+-- a trade of time 0 leaves by v before f in the same millisecond; f happens with an empty window too; an opening is then too late (15),
+-- and the next trade opens, with a look at the quotes; after it the table's 9 refuses an opening, whenever it comes
+abbrev pub noOpening : Day
 noOpening = record {
   end = 23_400_000;
   setup = listed 2;
   calls =
       tell (T 0 100_000) ∷
       settle 300_000 ∷ settle 300_000 ∷ settle 300_000 ∷
+      tell (O 300_000 3 100_000) ∷
       tell (O 300_000 2 100_000) ∷
       tell (Q 300_000 5 0 80_000) ∷
       tell (T 300_000 100_000) ∷
+      tell (O 300_000 2 100_000) ∷
       [];
   prints =
       (0 ∷ letter-T ∷ 0 ∷ 0 ∷ 0 ∷ 0 ∷ 0 ∷ 0 ∷ 0 ∷ 0 ∷ 0 ∷ []) ∷
       (300_000 ∷ mark-v ∷ 0 ∷ 0 ∷ 0 ∷ 0 ∷ 0 ∷ 0 ∷ 0 ∷ 0 ∷ 0 ∷ []) ∷
       (300_000 ∷ mark-f ∷ 0 ∷ 0 ∷ 0 ∷ 0 ∷ 0 ∷ 0 ∷ 0 ∷ 0 ∷ 0 ∷ []) ∷
-      (300_000 ∷ letter-O ∷ 9 ∷ 0 ∷ 0 ∷ 0 ∷ 0 ∷ 0 ∷ 0 ∷ 0 ∷ 0 ∷ []) ∷
+      (300_000 ∷ letter-O ∷ 8 ∷ 0 ∷ 0 ∷ 0 ∷ 0 ∷ 0 ∷ 0 ∷ 0 ∷ 0 ∷ []) ∷
+      (300_000 ∷ letter-O ∷ 15 ∷ 0 ∷ 0 ∷ 0 ∷ 0 ∷ 0 ∷ 0 ∷ 0 ∷ 0 ∷ []) ∷
       (300_000 ∷ letter-Q ∷ 0 ∷ 0 ∷ 0 ∷ 0 ∷ 0 ∷ 0 ∷ 0 ∷ 80_000 ∷ 1 ∷ []) ∷
       (300_000 ∷ letter-T ∷ 0 ∷ 2 ∷ 100_000 ∷ 80_000 ∷ 120_000 ∷ 0 ∷ 0 ∷ 80_000 ∷ 3 ∷ []) ∷
+      (300_000 ∷ letter-O ∷ 9 ∷ 2 ∷ 100_000 ∷ 80_000 ∷ 120_000 ∷ 0 ∷ 0 ∷ 80_000 ∷ 3 ∷ []) ∷
       [];
 }
 
 -- v and h in one millisecond: v makes no Test, since the hold ends with h
-unfoldable pub oneMillisecond : Day
+abbrev pub oneMillisecond : Day
 oneMillisecond = record {
   end = 23_400_000;
   setup = listed 2;
@@ -183,7 +187,7 @@ oneMillisecond = record {
 }
 
 -- a Late pause: no p ends it, X not before E, c at E + 300,000
-unfoldable pub aLatePause : Day
+abbrev pub aLatePause : Day
 aLatePause = record {
   end = 3_600_000;
   setup = listed 2;
@@ -212,7 +216,7 @@ aLatePause = record {
 
 -- a pause: another exchange does not reopen the stock, nor the primary too early, nothing trades; p resumes on the same reference,
 -- whose quotes are looked at
-unfoldable pub aPause : Day
+abbrev pub aPause : Day
 aPause = record {
   end = 23_400_000;
   setup = listed 2;
@@ -241,7 +245,7 @@ aPause = record {
 
 -- the primary's own pause needs a straddle; refusals 4, 5 and 6 on the way; at E there is z, and neither the x nor the v of the same
 -- millisecond
-unfoldable pub aStraddle : Day
+abbrev pub aStraddle : Day
 aStraddle = record {
   end = 3_600_000;
   setup = listed 2;
@@ -262,7 +266,7 @@ aStraddle = record {
       [];
   prints =
       (1_000 ∷ letter-O ∷ 0 ∷ 1 ∷ 115_000 ∷ 92_000 ∷ 138_000 ∷ 0 ∷ 0 ∷ 0 ∷ 0 ∷ []) ∷
-      (2_000 ∷ letter-P ∷ 9 ∷ 1 ∷ 115_000 ∷ 92_000 ∷ 138_000 ∷ 0 ∷ 0 ∷ 0 ∷ 0 ∷ []) ∷
+      (2_000 ∷ letter-P ∷ 16 ∷ 1 ∷ 115_000 ∷ 92_000 ∷ 138_000 ∷ 0 ∷ 0 ∷ 0 ∷ 0 ∷ []) ∷
       (2_000 ∷ letter-T ∷ 4 ∷ 1 ∷ 115_000 ∷ 92_000 ∷ 138_000 ∷ 0 ∷ 0 ∷ 0 ∷ 0 ∷ []) ∷
       (999 ∷ letter-T ∷ 5 ∷ 1 ∷ 115_000 ∷ 92_000 ∷ 138_000 ∷ 0 ∷ 0 ∷ 0 ∷ 0 ∷ []) ∷
       (31_000 ∷ letter-T ∷ 6 ∷ 1 ∷ 115_000 ∷ 92_000 ∷ 138_000 ∷ 0 ∷ 0 ∷ 0 ∷ 0 ∷ []) ∷
@@ -282,7 +286,7 @@ aStraddle = record {
 }
 
 -- the flags: a quote at its own band is plain, one tick beyond it not executable, at the other band limit, and beyond that left out
-unfoldable pub theFlags : Day
+abbrev pub theFlags : Day
 theFlags = record {
   end = 23_400_000;
   setup = listed 2;
@@ -305,7 +309,7 @@ theFlags = record {
 }
 
 -- f takes the mean, and looks at the quotes that stand there; two trades of one millisecond leave by one v
-unfoldable pub openedByF : Day
+abbrev pub openedByF : Day
 openedByF = record {
   end = 23_400_000;
   setup = listed 2;
@@ -327,7 +331,7 @@ openedByF = record {
 }
 
 -- the Test, after a trade once the hold has ended, and by v when the oldest trade leaves
-unfoldable pub theTest : Day
+abbrev pub theTest : Day
 theTest = record {
   end = 23_400_000;
   setup = listed 2;
@@ -349,7 +353,7 @@ theTest = record {
 }
 
 -- four moments at 900,000: w, x, v, h
-unfoldable pub theTies : Day
+abbrev pub theTies : Day
 theTies = record {
   end = 23_400_000;
   setup = listed 2;
@@ -376,7 +380,7 @@ theTies = record {
 }
 
 -- w narrows the bands of a Trading stock, and a quote that was plain is at the band: Limit
-unfoldable pub narrowed : Day
+abbrev pub narrowed : Day
 narrowed = record {
   end = 23_400_000;
   setup = listed 2;
@@ -396,7 +400,7 @@ narrowed = record {
 }
 
 -- leaving Limit, and entering it again in the same call: by the new bands the other side is at the band, and 15,000 count from now
-unfoldable pub limitAgain : Day
+abbrev pub limitAgain : Day
 limitAgain = record {
   end = 23_400_000;
   setup = listed 2;
@@ -422,7 +426,7 @@ limitAgain = record {
 }
 
 -- the quotes are looked at after O, after a Test that moved the reference, and after R
-unfoldable pub theLooks : Day
+abbrev pub theLooks : Day
 theLooks = record {
   end = 23_400_000;
   setup = listed 2;
@@ -450,7 +454,7 @@ theLooks = record {
 }
 
 -- a straddle by the offer alone, and w before p: the bands of p are those of the k after 900,000
-unfoldable pub offerStraddle : Day
+abbrev pub offerStraddle : Day
 offerStraddle = record {
   end = 23_400_000;
   setup = listed 2;
@@ -472,7 +476,37 @@ offerStraddle = record {
       [];
 }
 
+-- why a pause is refused: 9 in a state that takes none, 8 from another exchange, 16 without straddle; 9 in Limit, though there is a straddle, and
+-- in the pause that follows, of which the primary's own message comes after x
+abbrev pub refusedPauses : Day
+refusedPauses = record {
+  end = 23_400_000;
+  setup = listed 2;
+  calls =
+      tell (P 0 2) ∷
+      tell (O 1_000 2 115_000) ∷
+      tell (P 2_000 3) ∷
+      tell (P 2_000 2) ∷
+      tell (Q 3_000 5 91_000 0) ∷
+      tell (Q 3_000 6 0 92_000) ∷
+      tell (P 4_000 2) ∷
+      settle 18_000 ∷
+      tell (P 18_000 2) ∷
+      [];
+  prints =
+      (0 ∷ letter-P ∷ 9 ∷ 0 ∷ 0 ∷ 0 ∷ 0 ∷ 0 ∷ 0 ∷ 0 ∷ 0 ∷ []) ∷
+      (1_000 ∷ letter-O ∷ 0 ∷ 1 ∷ 115_000 ∷ 92_000 ∷ 138_000 ∷ 0 ∷ 0 ∷ 0 ∷ 0 ∷ []) ∷
+      (2_000 ∷ letter-P ∷ 8 ∷ 1 ∷ 115_000 ∷ 92_000 ∷ 138_000 ∷ 0 ∷ 0 ∷ 0 ∷ 0 ∷ []) ∷
+      (2_000 ∷ letter-P ∷ 16 ∷ 1 ∷ 115_000 ∷ 92_000 ∷ 138_000 ∷ 0 ∷ 0 ∷ 0 ∷ 0 ∷ []) ∷
+      (3_000 ∷ letter-Q ∷ 0 ∷ 1 ∷ 115_000 ∷ 92_000 ∷ 138_000 ∷ 91_000 ∷ 2 ∷ 0 ∷ 0 ∷ []) ∷
+      (3_000 ∷ letter-Q ∷ 0 ∷ 2 ∷ 115_000 ∷ 92_000 ∷ 138_000 ∷ 91_000 ∷ 2 ∷ 92_000 ∷ 3 ∷ []) ∷
+      (4_000 ∷ letter-P ∷ 9 ∷ 2 ∷ 115_000 ∷ 92_000 ∷ 138_000 ∷ 91_000 ∷ 2 ∷ 92_000 ∷ 3 ∷ []) ∷
+      (18_000 ∷ mark-x ∷ 0 ∷ 3 ∷ 115_000 ∷ 0 ∷ 0 ∷ 91_000 ∷ 1 ∷ 92_000 ∷ 1 ∷ []) ∷
+      (18_000 ∷ letter-P ∷ 9 ∷ 3 ∷ 115_000 ∷ 0 ∷ 0 ∷ 91_000 ∷ 1 ∷ 92_000 ∷ 1 ∷ []) ∷
+      [];
+}
+
 unfoldable pub days : List Day
 days =
     theDay ∷ aLimit ∷ byTheClose ∷ noOpening ∷ oneMillisecond ∷ aLatePause ∷ aPause ∷ aStraddle ∷
-    theFlags ∷ openedByF ∷ theTest ∷ theTies ∷ narrowed ∷ limitAgain ∷ theLooks ∷ offerStraddle ∷ []
+    theFlags ∷ openedByF ∷ theTest ∷ theTies ∷ narrowed ∷ limitAgain ∷ theLooks ∷ offerStraddle ∷ refusedPauses ∷ []

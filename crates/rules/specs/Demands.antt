@@ -49,7 +49,7 @@ use Rattle.rules.specs.Messages.{after}
 use Rattle.rules.specs.Numbers.{tells, settles, reads, setsUp, afterTelling, afterSettling, notice, tellAnswer, settleAnswer, readAnswer, setupAnswer, fresh, nextAnswer}
 use Rattle.rules.specs.Machine.{Machine, MachineLaws, Alike, Call, tell, settle, On, of, Every, journal, IsJournal, Event, message, moment, messages, notices, Lawful, becomes, left, Asked, numberOf, called, Calls, stock, numberIn, stepIn}
 use Rattle.rules.specs.Book.{machine, Story, Accepted, noSetup, blank, book, now, story, askedOf, journalOf, Settled, bookTells, bookSettles, bookReads, bookNext}
-use Rattle.rules.specs.Words.{IsShape, IsEnd, IsSetup, IsMean, HasBands, AtBand, Crossing, moments, IsFirst, Rubbish, refusals, settleRefusals, readRefusals, bookRefusals, setupRefusals, ShowsNothing, Shows, IsTime, itsMoment, AnswerInRange, NoticeInRange, UpcomingInRange, ShowsNone, ShowsNext}
+use Rattle.rules.specs.Words.{IsShape, IsEnd, IsSetup, IsMean, HasBands, AtBand, Crossing, moments, IsFirst, Rubbish, refusals, ReachesTable, WrongState, TooLate, NoStraddle, settleRefusals, readRefusals, bookRefusals, setupRefusals, ShowsNothing, Shows, IsTime, itsMoment, AnswerInRange, NoticeInRange, UpcomingInRange, ShowsNone, ShowsNext}
 use Rattle.rules.specs.Changes.{recent, TradesAfter, Quoted, QuotesAfter, ReferenceAfter, stateAfter, KeptAfter}
 use Rattle.rules.specs.Readings.{joined, lastQuote, NoneStarted, StartedBy, lastDate, countOf, MomentsOnly}
 use Rattle.rules.specs.Pauses.{before, PauseAt, LimitSince, PausedSince}
@@ -105,8 +105,8 @@ SetupNumbersAre = (stocks times prices end : ℕ) (us : List Setup) (n : ℕ)
 abbrev pub numbersOf : Message → List ℕ
 numbersOf (T time price) = 0 ∷ 1 ∷ 3 ∷ 4 ∷ 5 ∷ 6 ∷ 7 ∷ 11 ∷ 12 ∷ 13 ∷ []
 numbersOf (Q time participant bid offer) = 0 ∷ 1 ∷ 3 ∷ 4 ∷ 5 ∷ 6 ∷ 7 ∷ []
-numbersOf (O time participant price) = 0 ∷ 1 ∷ 3 ∷ 4 ∷ 5 ∷ 6 ∷ 7 ∷ 8 ∷ 9 ∷ []
-numbersOf (P time participant) = 0 ∷ 1 ∷ 3 ∷ 4 ∷ 5 ∷ 6 ∷ 7 ∷ 8 ∷ 9 ∷ []
+numbersOf (O time participant price) = 0 ∷ 1 ∷ 3 ∷ 4 ∷ 5 ∷ 6 ∷ 7 ∷ 8 ∷ 9 ∷ 15 ∷ []
+numbersOf (P time participant) = 0 ∷ 1 ∷ 3 ∷ 4 ∷ 5 ∷ 6 ∷ 7 ∷ 8 ∷ 9 ∷ 16 ∷ []
 numbersOf (R time participant price) = 0 ∷ 1 ∷ 3 ∷ 4 ∷ 5 ∷ 6 ∷ 7 ∷ 8 ∷ 9 ∷ 10 ∷ []
 numbersOf (X time participant price) = 0 ∷ 1 ∷ 3 ∷ 4 ∷ 5 ∷ 6 ∷ 7 ∷ 8 ∷ 9 ∷ 10 ∷ []
 
@@ -118,6 +118,19 @@ NumbersListed =
     × ((time : ℕ) → IsOneOf (bookSettles end b times prices i time .answer .number) (0 ∷ 1 ∷ 3 ∷ 4 ∷ 14 ∷ []))
     × IsOneOf (bookReads end b times prices i .number) (0 ∷ 1 ∷ 3 ∷ []))
     × ((stocks times prices end : ℕ) (us : List Setup) → IsOneOf (setsUp stocks times prices end us) (0 ∷ 1 ∷ 2 ∷ []))
+
+-- 9 comes from the table of message by state alone: it is given exactly where no check before the table applies and the state is wrong for the
+-- message.
+abbrev pub WrongStateIs : Type 0
+WrongStateIs = (m : Message) (h : Whole) → (tells m h ≡ 9) ↔ (ReachesTable m h and WrongState (h .stock) m)
+
+-- 15 is given exactly where no check before the table applies, and an opening comes to a Waiting stock at 300,000 or later.
+abbrev pub TooLateIs : Type 0
+TooLateIs = (m : Message) (h : Whole) → (tells m h ≡ 15) ↔ (ReachesTable m h and TooLate (h .stock) m)
+
+-- 16 is given exactly where no check before the table applies, and a pause comes to a Trading stock that has no straddle.
+abbrev pub NoStraddleIs : Type 0
+NoStraddleIs = (m : Message) (h : Whole) → (tells m h ≡ 16) ↔ (ReachesTable m h and NoStraddle (h .stock) m)
 
 -- ---------------------------------------------------------------- answers
 
@@ -455,6 +468,9 @@ pub record Demands : Type 1 where
   pub book-numbers : BookNumbersAre
   pub setup-numbers : SetupNumbersAre
   pub listed : NumbersListed
+  pub wrong-state : WrongStateIs
+  pub too-late : TooLateIs
+  pub no-straddle : NoStraddleIs
   pub calls-leave : CallsLeave
   pub shows : AnswersShow
   pub fit : AnswersFit

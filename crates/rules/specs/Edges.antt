@@ -48,6 +48,22 @@ trading-with r w = sound 1 1_000_000 0 0 0 r noQuotes w
 abbrev plain : Whole
 plain = trading-with (referring 100_000 990_000 1) []
 
+-- Waiting at a time, after f
+abbrev waiting : ℕ → Whole
+waiting time = sound 0 time 0 0 0 (referring 0 0 0) noQuotes []
+
+-- the bids or the offers of participants 5 and 6
+abbrev sides : ℕ → ℕ → List ℕ
+sides one other = set (set (replicate 16 0) 5 one) 6 other
+
+-- Trading with bids and offers; the bands are 90,000 and 110,000
+abbrev quoted : List ℕ → List ℕ → Whole
+quoted bids offers = sound 1 1_000_000 0 0 0 (referring 100_000 0 0) (record { bids = bids; offers = offers }) []
+
+-- in Limit, with quotes
+abbrev limited : Quotes → Whole
+limited quotes = sound 2 1_000_000 0 990_000 0 (referring 100_000 0 0) quotes []
+
 -- a Late pause, at the session's end
 abbrev late-at-end : Whole
 late-at-end = sound 4 3_600_000 0 0 3_000_000 (referring 1 0 0) noQuotes []
@@ -211,9 +227,35 @@ edges =
     -- the message's time decides, and not the clock: X at E, O at 300,000, a late T in Waiting, which no band stops
     told (sound 4 3_005_000 0 0 3_005_000 (referring 1 0 0) noQuotes []) (X 3_600_000 2 1) 0 ∷
     told (sound 4 3_005_000 0 0 3_005_000 (referring 1 0 0) noQuotes []) (X 3_599_999 2 1) 10 ∷
-    told (sound 0 0 0 0 0 (referring 0 0 0) noQuotes []) (O 300_000 2 1) 9 ∷
-    told (sound 0 400_000 0 0 0 (referring 0 0 0) noQuotes []) (T 400_000 1) 0 ∷
+    told (waiting 0) (O 300_000 2 1) 15 ∷
+    told (waiting 400_000) (T 400_000 1) 0 ∷
     told (sound 0 400_000 0 0 0 (referring 100_000 0 0) noQuotes []) (T 400_000 1) 0 ∷
+    -- 15 for an opening at 300,000 or later, after 8 and the table's 9 and 7; the table's 9 also before 300,000
+    told (waiting 0) (O 299_999 2 1) 0 ∷
+    told (waiting 400_000) (O 400_000 2 1) 15 ∷
+    told (waiting 0) (O 300_000 3 1) 8 ∷
+    told (straddled 100_000) (O 100_000 2 1) 9 ∷
+    told (limited noQuotes) (O 1_000_000 2 1) 9 ∷
+    told (sound 5 3_600_000 0 0 0 (referring 0 0 0) noQuotes []) (O 3_600_000 2 1) 7 ∷
+    -- 16 for a pause without straddle: no quote, quotes at the bands, a limit quote, a bid below the lower band behind a better one, an offer above
+    -- the upper behind a better one, sides that are left out, a crossed market; a straddle by one tick is taken
+    told plain (P 1_000_000 2) 16 ∷
+    told (quoted (sides 90_000 0) (sides 110_000 0)) (P 1_000_000 2) 16 ∷
+    told (at-band (referring 100_000 0 0)) (P 1_000_000 2) 16 ∷
+    told (quoted (sides 89_999 90_000) (sides 0 0)) (P 1_000_000 2) 16 ∷
+    told (quoted (sides 0 0) (sides 110_001 110_000)) (P 1_000_000 2) 16 ∷
+    told (quoted (sides 110_001 0) (sides 89_999 0)) (P 1_000_000 2) 16 ∷
+    told (quoted (sides 100_001 0) (sides 100_000 0)) (P 1_000_000 2) 16 ∷
+    told (quoted (sides 89_999 0) (sides 0 0)) (P 1_000_000 2) 0 ∷
+    told (quoted (sides 0 0) (sides 110_001 0)) (P 1_000_000 2) 0 ∷
+    -- 16 after 8 and the table's 9 and 7; the table's 9 also with a straddle
+    told (straddled 1_000_000) (P 1_000_000 3) 8 ∷
+    told (waiting 0) (P 0 2) 9 ∷
+    told (limited noQuotes) (P 1_000_000 2) 9 ∷
+    told (limited (straddled 0 .stock .quotes)) (P 1_000_000 2) 9 ∷
+    told (sound 3 1_000_000 0 0 990_000 (referring 1 0 0) noQuotes []) (P 1_000_000 2) 9 ∷
+    told late-at-end (P 3_600_000 2) 9 ∷
+    told (sound 5 3_600_000 0 0 0 (referring 1 0 0) noQuotes []) (P 3_600_000 2) 7 ∷
     -- a straddle makes a pause until E - 600,000 and then a Late pause; without one there is none
     shown (tells (P 2_999_999 2) (straddled 2_990_000) ∷ stateOf (afterTelling (P 2_999_999 2) (straddled 2_990_000) .stock) ∷ []) (0 ∷ Paused ∷ []) ∷
     shown (tells (P 3_000_000 2) (straddled 2_990_000) ∷ stateOf (afterTelling (P 3_000_000 2) (straddled 2_990_000) .stock) ∷ []) (0 ∷ Late ∷ []) ∷
@@ -300,7 +342,10 @@ edges =
     shown (noticed (bookSettles 3_600_000 (new-stock ∷ []) 512 512 1 7)) (0 ∷ 0 ∷ 3 ∷ 0 ∷ 0 ∷ 0 ∷ 0 ∷ 0 ∷ 0 ∷ 0 ∷ 0 ∷ []) ∷
     shown (noticed (settleAnswer 3_900_001 (trading-with (referring 100_000 970_000 1) [])))
     (0 ∷ 0 ∷ 4 ∷ 1 ∷ 100_000 ∷ 90_000 ∷ 110_000 ∷ 0 ∷ 0 ∷ 0 ∷ 0 ∷ []) ∷
-    -- every other number with what the stock shows: 13, and 4 in Waiting with a reference
+    -- every other number with what the stock shows: 15, 16 and 13, and 4 in Waiting with a reference
+    shown (line 0 0 (tellAnswer (O 400_000 2 1) (sound 0 400_000 0 0 0 (referring 100_000 0 0) noQuotes [])))
+    (0 ∷ 0 ∷ 15 ∷ 0 ∷ 100_000 ∷ 0 ∷ 0 ∷ 0 ∷ 0 ∷ 0 ∷ 0 ∷ []) ∷
+    shown (line 0 0 (tellAnswer (P 1_000_000 2) plain)) (0 ∷ 0 ∷ 16 ∷ 1 ∷ 100_000 ∷ 90_000 ∷ 110_000 ∷ 0 ∷ 0 ∷ 0 ∷ 0 ∷ []) ∷
     shown (line 0 0 (tellAnswer (T 1_000_000 90_000) (trading-with (referring 100_000 990_000 1) (replicate 512 (trade 990_000 100_000)))))
     (0 ∷ 0 ∷ 13 ∷ 1 ∷ 100_000 ∷ 90_000 ∷ 110_000 ∷ 0 ∷ 0 ∷ 0 ∷ 0 ∷ []) ∷
     shown (line 0 0 (tellAnswer (T 400_000 0) (sound 0 400_000 0 0 0 (referring 100_000 0 0) noQuotes [])))

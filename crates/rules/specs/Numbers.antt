@@ -170,8 +170,8 @@ outside s price = allOf (inForce s ∷ anyOf (ltb price (bandsIn s .lower) ∷ l
 unfoldable pub ownChecks : Message → ℕ → Stock → List Check
 ownChecks (T time price) held s = 12 when outside s price ∷ 13 when leb 512 held ∷ []
 ownChecks (Q time participant bid offer) held s = []
-ownChecks (O time participant price) held s = 9 when leb 300_000 time ∷ []
-ownChecks (P time participant) held s = 9 when not (straddle s) ∷ []
+ownChecks (O time participant price) held s = 15 when leb 300_000 time ∷ []
+ownChecks (P time participant) held s = 16 when not (straddle s) ∷ []
 ownChecks (R time participant price) held s = 10 when ltb time (s .course .pause + 300_000) ∷ []
 ownChecks (X time participant price) held s = 10 when ltb time (s .end) ∷ []
 

@@ -255,6 +255,15 @@ OutOfRange end (P time participant) = ¬ IsParticipant participant or ¬ IsTime 
 OutOfRange end (R time participant price) = ¬ IsParticipant participant or ¬ IsPrice price or ¬ IsTime end time
 OutOfRange end (X time participant price) = ¬ IsParticipant participant or ¬ IsPrice price or ¬ IsTime end time
 
+-- O, P, R and X name the primary
+abbrev pub FromPrimary : Stock → Message → Type 0
+FromPrimary s (T time price) = Otherwise
+FromPrimary s (Q time participant bid offer) = Otherwise
+FromPrimary s (O time participant price) = participant ≡ s .setup .primary
+FromPrimary s (P time participant) = participant ≡ s .setup .primary
+FromPrimary s (R time participant price) = participant ≡ s .setup .primary
+FromPrimary s (X time participant price) = participant ≡ s .setup .primary
+
 -- 12: a price outside bands in force. In Trading their k is that of the clock; it is also that of the message's time, since otherwise a w is
 -- unsettled and gives 6. In Limit their k is that of the entry
 abbrev pub Outside : Stock → ℕ → Type 0
@@ -277,14 +286,14 @@ ownRefusals (O time participant price) h =
     8 for (¬ (participant ≡ s .setup .primary)) ∷
     7 for (stateOf s ≡ Closed) ∷
     9 for (¬ (stateOf s ≡ Waiting)) ∷
-    9 for (300_000 ≤ time) ∷
+    15 for (300_000 ≤ time) ∷
     []
 ownRefusals (P time participant) h =
     let s = h .stock in
     8 for (¬ (participant ≡ s .setup .primary)) ∷
     7 for (stateOf s ≡ Closed) ∷
     9 for (¬ (stateOf s ≡ Trading)) ∷
-    9 for (¬ Straddle s) ∷
+    16 for (¬ Straddle s) ∷
     []
 ownRefusals (R time participant price) h =
     let s = h .stock in
@@ -318,6 +327,35 @@ refusals m h =
     5 for (timeIn m < clockOf (h .stock)) ∷
     6 for Due (timeIn m) h ∷
     ownRefusals m h
+
+-- no check before the table of message by state applies: the stock is no rubbish, every field is in range, the time is not before the clock, no
+-- moment is unsettled, and O, P, R and X come from the primary
+abbrev pub ReachesTable : Message → Whole → Type 0
+ReachesTable m h =
+    ¬ Rubbish h
+    and ¬ OutOfRange (h .stock .end) m
+    and clockOf (h .stock) ≤ timeIn m
+    and ¬ Due (timeIn m) h
+    and FromPrimary (h .stock) m
+
+-- 9: the stock is neither Closed nor in the one state that takes O, P, R or X; no state answers T or Q with 9
+abbrev pub WrongState : Stock → Message → Type 0
+WrongState s (T time price) = ⊥
+WrongState s (Q time participant bid offer) = ⊥
+WrongState s (O time participant price) = ¬ (stateOf s ≡ Closed) and ¬ (stateOf s ≡ Waiting)
+WrongState s (P time participant) = ¬ (stateOf s ≡ Closed) and ¬ (stateOf s ≡ Trading)
+WrongState s (R time participant price) = ¬ (stateOf s ≡ Closed) and ¬ (stateOf s ≡ Paused)
+WrongState s (X time participant price) = ¬ (stateOf s ≡ Closed) and ¬ (stateOf s ≡ Late)
+
+-- 15: an opening at 300,000 or later, of a stock that is Waiting
+abbrev pub TooLate : Stock → Message → Type 0
+TooLate s m = (time : ℕ) × (participant : ℕ) × (price : ℕ) × (m ≡ O time participant price and stateOf s ≡ Waiting and 300_000 ≤ time)
+
+-- 16: a pause of a stock that is Trading and shows flag 2 on neither side
+abbrev pub NoStraddle : Stock → Message → Type 0
+NoStraddle s m =
+    (time : ℕ) × (participant : ℕ) × (m ≡ P time participant and stateOf s ≡ Trading
+    and ((bid : Side) → BidShown s bid → ¬ (bid .flag ≡ 2)) and ((offer : Side) → OfferShown s offer → ¬ (offer .flag ≡ 2)))
 
 -- settling to a time: 1, 4, and 14 where nothing is due; 5 is for messages only
 abbrev pub settleRefusals : ℕ → Whole → List Number
@@ -364,10 +402,14 @@ ShowsStock s a =
     a .state ≡ stateOf s and a .reference ≡ s .reference .price and BandsShown s (record { lower = a .lower; upper = a .upper })
     and BidShown s (a .best .bid) and OfferShown s (a .best .offer)
 
+-- a number that is given back is one of those above, or 0
+abbrev pub IsNumber : ℕ → Type 0
+IsNumber number = number ≤ 16
+
 -- every number of an answer is in its range; bands can pass the largest price
 abbrev pub AnswerInRange : Answer → Type 0
 AnswerInRange a =
-    a .number ≤ 14 and a .state ≤ Closed and IsSide (a .reference) and a .lower ≤ 2_200_000_000 and a .upper ≤ 2_200_000_000
+    IsNumber (a .number) and a .state ≤ Closed and IsSide (a .reference) and a .lower ≤ 2_200_000_000 and a .upper ≤ 2_200_000_000
     and IsSide (a .best .bid .price) and a .best .bid .flag ≤ 3 and IsSide (a .best .offer .price) and a .best .offer .flag ≤ 3
 
 -- every number of a notice is in its range: a letter's code or 0, and a time of a session
@@ -376,7 +418,7 @@ NoticeInRange n = AnswerInRange (n .answer) and n .mark ≤ mark-z and n .time �
 
 -- every number of what comes next is in its range
 abbrev pub UpcomingInRange : Upcoming → Type 0
-UpcomingInRange u = u .number ≤ 14 and u .mark ≤ mark-z and u .time ≤ 23_700_000
+UpcomingInRange u = IsNumber (u .number) and u .mark ≤ mark-z and u .time ≤ 23_700_000
 
 -- a number with what the stock shows; after 1, 2 and 3 zeros
 abbrev pub Shows : ℕ → Stock → Answer → Type 0

@@ -11,12 +11,12 @@ use rules::Notice;
 use rules::Upcoming;
 use stock::Record;
 
-// The version of these functions and of the structs that they take and return.
+// The version of these functions, of the structs that they take and return, and of the numbers in them.
 #[no_mangle]
 pub extern "C" fn sumpheron_version() -> u32
     ensures { λ r. ⌜ r ≡ version ⌝ }
 {
-    2
+    3
 }
 
 // Sets up every stock: writes its record from its four numbers of the list (tier, leverage, primary, close), and

@@ -205,7 +205,8 @@ fn a_refusal_leaves_all_bytes() {
         (Letter::Q, 999, [0, 0, 0], 5),
         (Letter::T, 31_000, [115_000, 0, 0], 6),
         (Letter::P, 2_000, [3, 0, 0], 8),
-        (Letter::P, 2_000, [2, 0, 0], 9),
+        (Letter::O, 2_000, [2, 115_000, 0], 9),
+        (Letter::P, 2_000, [2, 0, 0], 16),
         (Letter::T, 2_000, [91_999, 0, 0], 12),
     ] {
         assert_eq!(book.tell(letter, time, rest).answer.number, number);
@@ -218,6 +219,21 @@ fn a_refusal_leaves_all_bytes() {
     let next = book.play(&Call::Next { stock: 0 });
     assert_eq!((next.mark, next.time), (u32::from(b'h'), 31_000));
     assert_eq!(book, before);
+}
+
+/// An opening is too late by its own time, also where f is no longer to come and the clock is earlier.
+#[test]
+fn a_late_opening_leaves_all_bytes() {
+    let mut book = Book::started();
+    book.records[0][EARLY] = 0;
+    let before = book.clone();
+    for (participant, time, number) in [(2, 300_000, 15), (2, 300_001, 15), (3, 300_000, 8)] {
+        let given = book.tell(Letter::O, time, [participant, 115_000, 0]);
+        assert_eq!(given.answer.number, number);
+        assert_eq!(book, before);
+    }
+    let given = book.tell(Letter::O, 299_999, [2, 115_000, 0]);
+    assert_eq!(given.answer.number, 0);
 }
 
 /// A Trading stock with three trades, markers other than 0 and 1, and unused places that are not 0.

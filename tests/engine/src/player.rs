@@ -2,7 +2,7 @@
 
 use bytes::field::*;
 use bytes::{Call, Given, Lent, PLACES};
-use second::{Answer, Letter, Message, CLOSED, TRADING};
+use second::{Answer, Letter, Message, CLOSED, TRADING, WAITING};
 
 use crate::book::Book;
 use crate::prices::{self, Sight};
@@ -142,6 +142,7 @@ impl<'a> Player<'a> {
             61..=90 => self.pause_late(stock),
             91..=150 => self.force_limit(stock),
             151..=190 => self.force_pause(stock),
+            191..=250 => self.open_late(stock),
             _ => self.message(stock),
         }
     }
@@ -263,11 +264,16 @@ impl<'a> Player<'a> {
         self.straddle_at(stock, time);
     }
 
-    /// Declares a pause at this time where the stock is in Trading.
+    /// Declares a pause at this time where the stock is in Trading; sometimes first with a quote at a band, which is no straddle.
     fn straddle_at(&mut self, stock: usize, time: u32) {
         self.settle_all(stock, time);
         self.clear(stock, time);
         let Answer { lower, upper, .. } = self.last[stock];
+        if self.run.chance.one_in(4) {
+            let sides = self.run.chance.pick(&[(lower, 0), (0, upper)]);
+            self.quote(stock, time, 3, sides);
+            self.tell(stock, Letter::P, time);
+        }
         let sides = [(lower.saturating_sub(1), 0), (0, upper + 1)];
         let sides = self.run.chance.pick(&sides);
         self.quote(stock, time, 3, sides);
@@ -289,6 +295,16 @@ impl<'a> Player<'a> {
         } else {
             self.straddle_at(stock, time);
         }
+    }
+
+    /// Opens a stock that waits just too late or just in time.
+    fn open_late(&mut self, stock: usize) {
+        let time = self.run.chance.about(300_000);
+        if self.last[stock].state != WAITING || time < self.book.record(stock)[CLOCK] {
+            return self.message(stock);
+        }
+        self.settle_all(stock, time);
+        self.tell(stock, Letter::O, time);
     }
 
     /// Trades until no place is left, close together or over almost five minutes.

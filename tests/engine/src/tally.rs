@@ -15,19 +15,21 @@ const POSSIBLE: [&[usize]; 10] = [
     &[0, 1, 3],
     &[0, 1, 3, 4, 5, 6, 7, 11, 12, 13],
     &[0, 1, 3, 4, 5, 6, 7],
-    &[0, 1, 3, 4, 5, 6, 7, 8, 9],
-    &[0, 1, 3, 4, 5, 6, 7, 8, 9],
+    &[0, 1, 3, 4, 5, 6, 7, 8, 9, 15],
+    &[0, 1, 3, 4, 5, 6, 7, 8, 9, 16],
     &[0, 1, 3, 4, 5, 6, 7, 8, 9, 10],
     &[0, 1, 3, 4, 5, 6, 7, 8, 9, 10],
 ];
 
+/// Numbers run from 0 to 16.
+const NUMBERS: usize = 17;
 const MARKS: &[u8; 8] = b"zwxpcvfh";
 const DIFFERENCES_AT_MOST: u64 = 10;
 
 #[derive(Default)]
 pub struct Tally {
     /// A row per kind of call, a column per number.
-    table: [[u64; 15]; 10],
+    table: [[u64; NUMBERS]; 10],
     /// A row per kind of book, in the order in which they are played, a column per kind of call.
     parts: Vec<(&'static str, [u64; 10])>,
     /// How many answers had each state.
@@ -116,7 +118,7 @@ impl Tally {
     fn print_tables(&self) {
         print_row(
             " number",
-            &std::array::from_fn::<usize, 15, _>(|number| number),
+            &std::array::from_fn::<usize, NUMBERS, _>(|number| number),
         );
         for (kind, row) in KINDS.iter().zip(&self.table) {
             print_row(kind, row);

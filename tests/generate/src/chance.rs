@@ -1,6 +1,7 @@
 //! Random numbers from a seed, the same on every machine.
 
 /// A splitmix64 generator.
+#[derive(Clone)]
 pub struct Chance(u64);
 
 impl Chance {

@@ -71,6 +71,19 @@ impl Player {
         self.tape.send(m);
     }
 
+    /// Openings in Waiting that come too late: at 300,000, just after it, and just before a first trade of this time. They come on top of
+    /// the plan's messages, with a copy of the random numbers, so that the rest of the day does not depend on them.
+    pub(crate) fn open_too_late(&mut self, stock: usize, first: u32) {
+        let (chance, sent) = (self.chance.clone(), self.tape.messages.len());
+        for time in [300_000, 300_001, first - 1] {
+            if (300_000..first).contains(&time) && self.chance.one_in(3) {
+                self.message(stock, time, Letter::O);
+            }
+        }
+        self.plan.messages += self.tape.messages.len() - sent;
+        self.chance = chance;
+    }
+
     /// An opening price: near the last reference, or far from it.
     fn opening(&mut self, stock: usize) -> u32 {
         let kept = &self.tape.book[stock];

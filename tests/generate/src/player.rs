@@ -75,11 +75,12 @@ impl Player {
         }
     }
 
-    /// If the plan starts late in the day, makes each stock's first trade near that time.
+    /// If the plan starts late in the day, makes each stock's first trade near that time, some after openings that come too late.
     fn set_out(&mut self) {
         for stock in 0..self.tape.book.len() {
             if self.plan.start > 0 {
                 let time = self.plan.start - self.chance.below(self.plan.spread);
+                self.open_too_late(stock, time);
                 self.act(stock, time, Intent::Trade);
             }
         }

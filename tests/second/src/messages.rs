@@ -89,8 +89,11 @@ impl Stock {
         if entry != 0 {
             return entry;
         }
-        if self.is_out_of_place(m) {
-            return 9;
+        if m.letter == Letter::O && m.time >= 300_000 {
+            return 15;
+        }
+        if m.letter == Letter::P && !self.is_straddle() {
+            return 16;
         }
         if self.is_too_early(m) {
             return 10;
@@ -114,15 +117,6 @@ impl Stock {
                 Letter::P => participant,
                 Letter::O | Letter::R | Letter::X => participant && price_in_range(m.price),
             }
-    }
-
-    /// The other 9s: an O that is not before 300,000, a P without a straddle.
-    fn is_out_of_place(&self, m: &Message) -> bool {
-        match m.letter {
-            Letter::O => m.time >= 300_000,
-            Letter::P => !self.is_straddle(),
-            _ => false,
-        }
     }
 
     /// An R in the first 300,000 of a pause, an X earlier than E.

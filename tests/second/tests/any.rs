@@ -145,7 +145,7 @@ impl Dice {
 #[test]
 fn any_record() {
     let mut dice = Dice(1);
-    let mut seen = [0; 15];
+    let mut seen = [0; 17];
     for _ in 0..100_000 {
         let mut book = vec![dice.any_stock()];
         let before = book.clone();
@@ -225,7 +225,7 @@ fn likely(dice: &mut Dice, stock: &Stock) -> Message {
 fn reached_books_stay_good() {
     let mut dice = Dice(2);
     let mut states = [0; 6];
-    let mut numbers = [0; 15];
+    let mut numbers = [0; 17];
     for _ in 0..3_000 {
         let tier = 1 + dice.below(2);
         let one = Setup {
@@ -259,7 +259,7 @@ fn reached_books_stay_good() {
         }
     }
     assert!(states.iter().all(|&count| count > 0), "{states:?}");
-    for number in [0, 4, 7, 9, 10, 11, 12, 14] {
+    for number in [0, 4, 7, 9, 10, 11, 12, 14, 15, 16] {
         assert!(numbers[number] > 0, "{numbers:?}");
     }
 }

@@ -428,7 +428,7 @@ fn checks_in_order() {
     let mut now = stock.clone();
     now.clock = 31_000;
     assert_eq!(number(&now, &trade(30_999, 115_000)), 5);
-    // 6 before 8, 8 before the table, the table before 9.
+    // 6 before 8, 8 before the table.
     assert_eq!(number(&now, &trade(31_000, 115_000)), 6);
     pause.participant = 3;
     pause.time = 31_000;
@@ -438,12 +438,7 @@ fn checks_in_order() {
     let mut other = primary(Letter::O, E, 1);
     other.participant = 3;
     assert_eq!(number(&closed(), &other), 8);
-    // P without straddle, O at 300,000, R and X too early.
-    assert_eq!(number(&stock, &primary(Letter::P, 2_000, 0)), 9);
-    let mut waiting = fresh();
-    assert_eq!(number(&waiting, &primary(Letter::O, 299_999, 1)), 0);
-    (waiting.f_done, waiting.clock) = (1, 300_000);
-    assert_eq!(number(&waiting, &primary(Letter::O, 300_000, 1)), 9);
+    // R and X too early.
     assert_eq!(number(&paused(), &primary(Letter::R, 300_999, 1)), 10);
     assert_eq!(number(&late_pause(), &primary(Letter::X, E - 1, 1)), 10);
     // 12 before 13.
@@ -466,6 +461,115 @@ fn checks_in_order() {
     assert_eq!((notice.mark, notice.time), (0, 0));
     assert_eq!((notice.answer.number, notice.answer.upper), (14, 138_000));
     assert_eq!(settle_one(&mut trading(), 0).answer.number, 14);
+}
+
+/// Waiting past 300,000: f has happened and found no trade.
+fn waiting_late() -> Stock {
+    Stock {
+        clock: 300_000,
+        f_done: 1,
+        ..fresh()
+    }
+}
+
+/// O, P, R or X by another participant than the primary.
+fn by_another(letter: Letter, time: u32, price: u32) -> Message {
+    Message {
+        participant: PRIMARY + 1,
+        ..primary(letter, time, price)
+    }
+}
+
+#[test]
+fn a_late_opening_is_15_in_waiting_only() {
+    let number = |stock: &Stock, time: u32| {
+        let m = primary(Letter::O, time, 115_000);
+        tell_one(&mut stock.clone(), &m).number
+    };
+    assert_eq!(number(&fresh(), 299_999), 0);
+    // f is still to come.
+    assert_eq!(number(&fresh(), 300_000), 6);
+    for time in [300_000, 300_001, 900_000] {
+        let mut stock = waiting_late();
+        settle_all(&mut stock, time);
+        let answer = tell_one(&mut stock, &primary(Letter::O, time, 115_000));
+        assert_eq!((answer.number, answer.state), (15, WAITING), "{time}");
+        // 4 and 8 before 15.
+        let other = by_another(Letter::O, time, 115_000);
+        assert_eq!(tell_one(&mut stock, &other).number, 8, "{time}");
+        let free = primary(Letter::O, time, 0);
+        assert_eq!(tell_one(&mut stock, &free).number, 4, "{time}");
+    }
+    assert_eq!(number(&waiting_late(), 299_999), 5);
+    // The message's time decides and not the clock, also in a record that no day reaches.
+    let mut early = waiting_late();
+    early.clock = 0;
+    assert_eq!(number(&early, 299_999), 0);
+    assert_eq!(number(&early, 300_000), 15);
+    // Held trades make no difference.
+    let mut held = waiting_late();
+    held.trades = vec![Trade {
+        time: 300_000,
+        price: 115_000,
+    }];
+    assert_eq!(number(&held, 300_000), 15);
+    // In every other state the table decides, at any time.
+    for time in [299_999, 300_000, 300_001] {
+        for state in [TRADING, LIMIT, PAUSED, LATE_PAUSE] {
+            let stock = Stock {
+                state,
+                clock: 299_999,
+                limit_entry: 299_999,
+                pause_start: 299_999,
+                hold_ended: 1,
+                ..trading()
+            };
+            assert_eq!(number(&stock, time), 9, "{time} in {state}");
+        }
+    }
+    assert_eq!(number(&closed(), E), 7);
+}
+
+#[test]
+fn a_pause_without_straddle_is_16_in_trading_only() {
+    let pause = primary(Letter::P, 2_000, 0);
+    let number = |stock: &Stock, m: &Message| tell_one(&mut stock.clone(), m).number;
+    // A bid and an offer, and what P gets with the bands 92,000 and 138,000.
+    let cases = [
+        (0, 0, 16),
+        (92_000, 0, 16),
+        (91_999, 0, 0),
+        (0, 138_000, 16),
+        (0, 138_001, 0),
+        (91_999, 138_001, 0),
+        (92_000, 138_000, 16),
+        (115_000, 138_001, 0),
+        // Left out: a bid above the upper band, an offer below the lower.
+        (138_001, 91_999, 16),
+    ];
+    for (bid, offer, wanted) in cases {
+        let mut stock = trading();
+        (stock.bids[3], stock.offers[4]) = (bid, offer);
+        assert_eq!(stock.state, TRADING);
+        assert_eq!(number(&stock, &pause), wanted, "{bid} {offer}");
+        // Another participant's is 8 with and without a straddle.
+        let other = by_another(Letter::P, 2_000, 0);
+        assert_eq!(number(&stock, &other), 8, "{bid} {offer}");
+    }
+    // A better quote within the bands hides the one beyond them.
+    let mut hidden = with_low_bid(trading());
+    hidden.bids[9] = 92_000;
+    assert_eq!(number(&hidden, &pause), 16);
+    // In every other state the table decides, with a low bid and without; in Limit it is a straddle.
+    let answer = read(&[with_low_bid(limit())], 0);
+    assert_eq!((answer.state, answer.bid_flag), (LIMIT, 2));
+    for stock in [fresh(), limit(), paused(), late_pause(), closed()] {
+        let m = primary(Letter::P, stock.clock.max(2_000), 0);
+        let wanted = if stock.state == CLOSED { 7 } else { 9 };
+        assert_eq!(number(&stock, &m), wanted, "{}", stock.state);
+        let low = with_low_bid(stock);
+        assert_eq!(number(&low, &m), wanted, "{} with a low bid", low.state);
+    }
 }
 
 #[test]

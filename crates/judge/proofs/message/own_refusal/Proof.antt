@@ -27,8 +27,8 @@ of-trade : (time price held : ℕ) (k : Kept) (q : Quotes) (r : ℕ) → ((t : �
 of-trade time price held k q r e = e time q
 
 -- by what a call answered
-of-pause : (s : Stock) (b : Bool) (r : ℕ) → b ≡ straddle s → r ≡ first (9 when not b ∷ []) → r ≡ first (9 when not (straddle s) ∷ [])
-of-pause s b r e q = rw (← e) q
+of-pause : (n : ℕ) (s : Stock) (b : Bool) (r : ℕ) → b ≡ straddle s → r ≡ first (n when not b ∷ []) → r ≡ first (n when not (straddle s) ∷ [])
+of-pause n s b r e q = rw (← e) q
 
 pub own-refusal-spec : {M : Type 1} → statement M
 unfolding ownChecks
