@@ -6,7 +6,7 @@ use mathlib.Core.List.{List, [], _∷_}
 use mathlib.Core.Logic.{inl, inr, ⊎-elim, _↔_, Iff·trans}
 use mathlib.Core.Path.{_≡_, refl, ap, subst}
 use native.Mathlib.Omega.{arith}
-use Rattle.forms.specs.Words.{_and_, Number, Gives}
+use Rattle.forms.specs.Words.{_or_, _and_, Number, Gives}
 use Rattle.forms.specs.Words.Number.{_for_}
 use Rattle.forms.proofs.Decides.{has, numbersIn, eq-stable, take, not-given, None, once}
 use Rattle.rules.specs.Stock.{Whole, Waiting, Trading, Closed}
@@ -91,13 +91,19 @@ gives-15 (X time participant price) h = nowhere _ 15 _ _ refl (λ k. omega (arit
 a-pause : (h : Whole) (m : Message) → NoStraddle (h .stock) m → kind m ≡ 3
 a-pause h m (time, participant, (e, _)) = ap kind e
 
+-- a side that is shown with flag 2 is a best quote beyond a band
+beyond : (Absent Best Beyond : Type 0) (price flag : ℕ) (rest : List Number) → has (0 ∷ numbersIn rest) 2 ≡ false → flag ≡ 2
+    → ((Absent and price ≡ 0 and flag ≡ 0) or (Best and Gives (2 for Beyond ∷ rest) flag)) → Best × Beyond
+beyond Absent Best Beyond price flag rest none two (inl (_, (_, zero))) = absurd (omega (arith, two, zero))
+beyond Absent Best Beyond price flag rest none two (inr (best, g)) = (best, once [] 2 Beyond rest refl none .0 (subst (Gives _) two g) .1)
+
 -- there is no straddle exactly where no side is shown with flag 2
 no-flag : (s : Stock)
     → (¬ Straddle s) ↔ (((bid : Side) → BidShown s bid → ¬ (bid .flag ≡ 2)) and ((offer : Side) → OfferShown s offer → ¬ (offer .flag ≡ 2)))
 no-flag s = (
   (λ none. (
-    (λ bid shown two. ⊎-elim (λ k. omega (arith, k .1 .1)) (λ k. let g = once [] 2 _ _ refl refl .0 (subst (Gives _) two (k .1)) .1 in none (g .0, g .1, inl (bid .price, k .0, g .2))) shown),
-    (λ offer shown two. ⊎-elim (λ k. omega (arith, k .1 .1)) (λ k. let g = once [] 2 _ _ refl refl .0 (subst (Gives _) two (k .1)) .1 in none (g .0, g .1, inr (offer .price, k .0, g .2))) shown),
+    (λ bid shown two. let k = beyond _ _ _ _ _ _ refl two shown in none (k .1 .0, k .1 .1, inl (bid .price, k .0, k .1 .2))),
+    (λ offer shown two. let k = beyond _ _ _ _ _ _ refl two shown in none (k .1 .0, k .1 .1, inr (offer .price, k .0, k .1 .2))),
   )),
   (λ (bids, offers) (l, bands, k). ⊎-elim
       (λ (bid, best, below). bids (record { price = bid; flag = 2 }) (inr (best, take 2 2 _ _ (l, bands, below) refl)) refl)
