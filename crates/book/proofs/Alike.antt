@@ -27,7 +27,7 @@ use Rattle.book.specs.Lent.{Lent}
 use Rattle.book.specs.Layout.{layout}
 use Rattle.book.specs.Words.{setupTable}
 use Rattle.book.specs.Setup.{numberOf}
-use Rattle.book.specs.Demands.{Family, Made, refused-setup, told, settled, was-read, next-given, Chain, calls, Answered, accepted, noticed, SettledTo, Demand2, Demand3}
+use Rattle.book.specs.Demands.{Family, Made, refused-setup, told, settled, was-read, next-given, Chain, calls, Answered, accepted, noticed, SettledTo, Demand2, Demand3, StoriesTold}
 use Rattle.book.proofs.Layouts.{length-records}
 use Rattle.book.proofs.SettingUp.{same-number}
 use Rattle.book.proofs.Chains.{Started, started, step-length, run-length, all-fit}
@@ -166,7 +166,7 @@ module _ (𝓕 : Family) (d : Demand2 𝓕) (end : ℕ) (list : List ℕ) (b₀ 
     long : length left ≡ length us
     long = run-length end (book end us) (calls cs) ∙ length-map us (fresh end)
 
-    records : length (b′ .records) ≡ length us
+    pub records : length (b′ .records) ≡ length us
     records = ap (λ (x : Lent). length (x .records)) (follows .1) ∙ length-records left (all-fit end us (calls cs)) ∙ long
 
     stories : (i : ℕ) → AsAnswered i end (book end us) cs
@@ -182,6 +182,10 @@ module _ (𝓕 : Family) (d : Demand2 𝓕) (end : ℕ) (list : List ℕ) (b₀ 
           sym (settled-own end left (omega (arith, long, s .some)) (omega (arith, long, s .few)) i time (n .0) own (omega (arith, long, here)) .1) ∙ n .3;
       nothing-later = λ i. subst (Every (λ (n : Notice). n .time ≤ time)) (sym (stories i .1)) (t .nothing-later i);
     }
+
+-- what the calls were answered is what the stories say
+pub stories-told : (𝓕 : Family) → Demand2 𝓕 → StoriesTold 𝓕
+stories-told 𝓕 d end list b₀ b b′ a cs p z k = stories 𝓕 d end list b₀ b a p z b′ cs k
 
 pub alike : (𝓕 : Family) → Demand2 𝓕 → Demand3 𝓕
 alike 𝓕 d end time list b₀ b b′ c₀ c c′ a e cs ds p p0 pk q q0 qk ps qs same =

@@ -18,10 +18,11 @@ use Rattle.book.proofs.Laws.{laws}
 use Rattle.book.proofs.Meaning.{number-by}
 use Rattle.book.proofs.OneStock.{one-stock}
 use Rattle.book.proofs.Chains.{demand2}
-use Rattle.book.proofs.Alike.{alike}
+use Rattle.book.proofs.Alike.{stories-told, alike}
 use Rattle.book.proofs.After.{after-setup}
 use Rattle.book.proofs.Copies.{copied}
 use Rattle.book.proofs.Entries.{journals-grow}
+use Rattle.book.proofs.LimitPauses.{pauses-apart, pauses-few}
 use Rattle.book.proofs.Reasons.{reasons}
 use Rattle.book.proofs.Replay.{recovery}
 use Rattle.book.proofs.Wrong.{silent-fails, refusing-fails, fixed-fails, leaving-fails, acknowledging-fails, blind-fails, unaware-fails}
@@ -72,6 +73,9 @@ demands = record {
   demand2 = demand2;
   demand3 = alike;
   after-setup = after-setup;
+  stories-told = stories-told;
+  pauses-apart = pauses-apart;
+  pauses-few = pauses-few;
   one-stock = one-stock;
   recovery = recovery;
   copied = copied;

@@ -15,6 +15,7 @@ pub mod Chains
 pub mod Alike
 pub mod Wrong
 pub mod After
+pub mod LimitPauses
 pub mod Reasons
 pub mod Replay
 pub mod Entries

@@ -13,9 +13,11 @@ use Rattle.forms.specs.Choice.{if_then_else_, allOf}
 use Rattle.forms.specs.Promises.{Determines}
 use Rattle.forms.specs.Words.{_and_, Otherwise, Some, Gives}
 use Rattle.rules.specs.Stock.{Whole}
-use Rattle.rules.specs.Machine.{Call, tell, settle, Calls, Every, journal, IsJournal, stepIn, run}
-use Rattle.rules.specs.Book.{machine, blank, book, bookTells, bookSettles, bookReads, bookNext}
+use Rattle.rules.specs.Machine.{Call, tell, settle, messages, notices, Calls, Every, journal, IsJournal, stepIn, run}
+use Rattle.rules.specs.Book.{machine, blank, book, story, bookTells, bookSettles, bookReads, bookNext}
 use Rattle.rules.specs.Numbers.{zeros, fresh, afterTelling, afterSettling, tellAnswer, settleAnswer, noneComing, noNotice}
+use Rattle.rules.specs.Readings.{limitPauses}
+use Rattle.rules.specs.LimitPauses.{Apart, leastDistance, pausesBound}
 use Rattle.rules.specs.Words.{refusals, settleRefusals, readRefusals, ReachesTable, WrongState, TooLate, NoStraddle, ShowsNothing}
 use Rattle.rules.specs.declared.Answer.{Answer}
 use Rattle.rules.specs.declared.Message.{Message}
@@ -250,6 +252,29 @@ AfterSetup 𝓕 = (end : ℕ) (list : List ℕ) (b₀ b b′ : Lent) (a : Answer
     → Chain 𝓕 b cs b′
     → Never1 cs × ((i : ℕ) → i < length (b′ .records) → UnusedAre0 i b′)
 
+-- After an accepted setup, in every family that meets demand 2: the accepted messages and the notices of each stock, read from the calls and their
+-- answers, are those of its story.
+abbrev pub StoriesTold : Family → Type 0
+StoriesTold 𝓕 = (end : ℕ) (list : List ℕ) (b₀ b b′ : Lent) (a : Answer) (cs : List Made) → 𝓕 .SetUp end list b₀ a b → a .number ≡ 0
+    → Chain 𝓕 b cs b′
+    → (i : ℕ) → let es = story end (setupsOf list) (calls cs) i in (messages es ≡ accepted i cs) × (notices es ≡ noticed i cs)
+
+-- ------------------------------------------------------------------ how often a stock can pause (R-2)
+
+-- After an accepted setup and any calls, refused ones and refused setups among them, this holds for the starts of each stock's limit pauses.
+abbrev pub OfLimitPauses : Family → (List ℕ → Type 0) → Type 0
+OfLimitPauses 𝓕 Holds = (end : ℕ) (list : List ℕ) (b₀ b b′ : Lent) (a : Answer) (cs : List Made) → 𝓕 .SetUp end list b₀ a b → a .number ≡ 0
+    → Chain 𝓕 b cs b′
+    → (i : ℕ) → i < length (b′ .records) → Holds (limitPauses (noticed i cs))
+
+-- Any two limit pauses of one stock start at least 315,000 apart.
+abbrev pub PausesApart : Family → Type 0
+PausesApart 𝓕 = OfLimitPauses 𝓕 (Apart leastDistance)
+
+-- Hence one stock never has more than 75 limit pauses in a day.
+abbrev pub PausesFew : Family → Type 0
+PausesFew 𝓕 = OfLimitPauses 𝓕 (λ starts. length starts ≤ pausesBound)
+
 -- ------------------------------------------------------------------ one lent record
 
 -- a call on one lent record, with its answer
@@ -382,6 +407,9 @@ pub record Demands : Type 1 where
   pub demand2 : Demand2 ours
   pub demand3 : (𝓕 : Family) → Demand2 𝓕 → Demand3 𝓕
   pub after-setup : (𝓕 : Family) → Demand2 𝓕 → AfterSetup 𝓕
+  pub stories-told : (𝓕 : Family) → Demand2 𝓕 → StoriesTold 𝓕
+  pub pauses-apart : (𝓕 : Family) → Demand2 𝓕 → PausesApart 𝓕
+  pub pauses-few : (𝓕 : Family) → Demand2 𝓕 → PausesFew 𝓕
   pub one-stock : OneStock
   pub recovery : (𝓕 : Family) → Demand2 𝓕 → Recovery 𝓕
   pub copied : Copied

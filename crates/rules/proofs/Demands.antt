@@ -3,11 +3,13 @@
 use Rattle.rules.specs.Demands.{Demands}
 use Rattle.rules.proofs.Alike.{alike}
 use Rattle.rules.proofs.Answers.{book-numbers, listed, calls-leave, shows, answers, fresh-is}
+use Rattle.rules.proofs.Apart.{limit-pauses, pauses-apart, pauses-few}
 use Rattle.rules.proofs.Books.{by-story, refused, others, settled-alike, same-journal, replayed, settled-on}
 use Rattle.rules.proofs.Changed.{states, reference, kept}
 use Rattle.rules.proofs.Coming.{moments-are}
+use Rattle.rules.proofs.Dates.{dates-few, no-fewer}
 use Rattle.rules.proofs.Entries.{asked-grow, journals-grow}
-use Rattle.rules.proofs.Examples.{by-hand, as-printed, at-edges}
+use Rattle.rules.proofs.Examples.{by-hand, as-printed, pauses-counted, at-edges}
 use Rattle.rules.proofs.Few.{few-moments}
 use Rattle.rules.proofs.FirstFive.{one-f}
 use Rattle.rules.proofs.Fits.{fit}
@@ -21,6 +23,7 @@ use Rattle.rules.proofs.Next.{next-is, book-next, next-settles}
 use Rattle.rules.proofs.Numbers.{numbers, setup-numbers}
 use Rattle.rules.proofs.Only.{changes-only}
 use Rattle.rules.proofs.Pauses.{dates, pauses}
+use Rattle.rules.proofs.Reached.{no-farther}
 use Rattle.rules.proofs.Reasons.{wrong-state, too-late, no-straddle}
 use Rattle.rules.proofs.Resumes.{resumes, never-again}
 use Rattle.rules.proofs.Since.{reference-since}
@@ -81,8 +84,15 @@ demands = record {
   pauses = pauses;
   resumes = resumes;
   never-again = never-again;
+  limit-pauses = limit-pauses;
+  pauses-apart = pauses-apart;
+  no-farther = no-farther;
+  dates-few = dates-few;
+  no-fewer = no-fewer;
+  pauses-few = pauses-few;
   one-f = one-f;
   by-hand = by-hand;
   as-printed = as-printed;
+  pauses-counted = pauses-counted;
   at-edges = at-edges;
 }

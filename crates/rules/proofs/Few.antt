@@ -13,7 +13,7 @@ use Rattle.forms.specs.Choice.{if_then_else_, anyOf}
 use Rattle.forms.proofs.Choice.{if-arms, all-head, all-tail}
 use Rattle.rules.specs.Stock.{Trade, Whole, Waiting, Trading, Limit, Paused, Late, stateOf, clockOf, is, at-time, in-state, enter-limit, enter-pause, not-early, refer-to, hold-ended, oldest, figuresOf, meanIn, staying}
 use Rattle.rules.specs.States.{look, begin-trading, test, begin-pause, shut}
-use Rattle.rules.specs.Moments.{first-five, effect, windowAfter, come, nextOf, fire}
+use Rattle.rules.specs.Moments.{limitLasts, first-five, effect, windowAfter, come, nextOf, fire}
 use Rattle.rules.specs.Messages.{after}
 use Rattle.rules.specs.Numbers.{fresh, notice}
 use Rattle.rules.specs.Machine.{message, moment, Lawful, left}
@@ -34,9 +34,13 @@ use Rattle.rules.proofs.MomentRows.{IsRow, row-z, row-w-early, row-w-la
 abbrev holdTime : Stock → ℕ
 holdTime s = if eqb (s .reference .hold) 0 then clockOf s else s .reference .start
 
--- how far the limit states and pauses have come: x brings them 15,000 and 285,000 on, p the rest of 600,000
+-- what a limit state lacks of 300,000
+abbrev rest : ℕ
+rest = 300_000 - limitLasts
+
+-- how far the limit states and pauses have come: x brings them 300,000 on, and p more than that
 abbrev pauseTime : Stock → ℕ
-pauseTime s = if is Limit s then s .course .entry else if is Paused s then s .course .pause + 285_000 else clockOf s
+pauseTime s = if is Limit s then s .course .entry else if is Paused s then s .course .pause + rest else clockOf s
 
 gone : Stock → ℕ
 gone s = 10 * holdTime s + pauseTime s
@@ -72,9 +76,9 @@ still-by : (n : ℕ) (s : Stock) → still n s ≤ n + 7
 unfolding still
 still-by n s = omega (arith, wait-by 900_000 (clockOf s), wait-by (s .end - 1_500_000) (clockOf s))
 
-gone-by : (s : Stock) → Ranges s → (holdTime s ≤ clockOf s) × (pauseTime s ≤ clockOf s + 285_000)
+gone-by : (s : Stock) → Ranges s → (holdTime s ≤ clockOf s) × (pauseTime s ≤ clockOf s + rest)
 gone-by s r =
-    let By : ℕ → Type 0 = λ p. p ≤ clockOf s + 285_000 in (
+    let By : ℕ → Type 0 = λ p. p ≤ clockOf s + rest in (
       if-arms (λ p. p ≤ clockOf s) _ (λ _. le-refl _) (λ _. r .start-by),
       if-arms By _ (λ _. omega arith) (λ _. if-arms By _ (λ _. omega arith) (λ _. omega arith)),
     )
@@ -92,7 +96,7 @@ time-spends : (k n t : ℕ) (s : Stock) → clockOf s ≤ t → k + waits (s .en
 unfolding still gone
 time-spends k n t s l w =
     let a = if-le (eqb (s .reference .hold) 0) l (le-refl (s .reference .start)) in
-    let b = if-le (is Limit s) (le-refl (s .course .entry)) (if-le (is Paused s) (le-refl (s .course .pause + 285_000)) l) in
+    let b = if-le (is Limit s) (le-refl (s .course .entry)) (if-le (is Paused s) (le-refl (s .course .pause + rest)) l) in
     omega arith
 
 look-spends : (n : ℕ) (s : Stock) → Spends 0 n s n (look s)
@@ -123,7 +127,7 @@ trading-spends k n price s r l p =
     let a : Spends k n s n s′ = unfold still gone if_then_else_ in omega (arith, gone-by s r .0) in
     omega (arith, look-spends n s′)
 
-pause-spends : (n : ℕ) (s : Stock) → stateOf s ≡ Limit → clockOf s ≡ s .course .entry + 15_000 → Spends 300_000 n s n (begin-pause s)
+pause-spends : (n : ℕ) (s : Stock) → stateOf s ≡ Limit → clockOf s ≡ s .course .entry + limitLasts → Spends 300_000 n s n (begin-pause s)
 unfolding begin-pause
 pause-spends n s e c = if-arms (λ p. Spends 300_000 n s n (enter-pause p s)) _
     (λ _. unfold still gone if_then_else_ in rw e (omega arith)) (λ _. unfold still gone if_then_else_ in rw e (omega arith))

@@ -21,6 +21,9 @@ pub mod FirstFive
 pub mod Trades
 pub mod PausedSince
 pub mod Resumes
+pub mod Dates
+pub mod Apart
+pub mod Reached
 pub mod Last
 pub mod Held
 pub mod Window

@@ -11,7 +11,7 @@ use Rattle.forms.specs.Choice.{allOf}
 use Rattle.forms.proofs.Choice.{all-head, all-tail}
 use Rattle.forms.proofs.Tables.{_│_}
 use Rattle.rules.specs.Stock.{Whole, Waiting, Limit, Paused, Late, stateOf, clockOf, figuresOf}
-use Rattle.rules.specs.Moments.{mark-z, mark-w, mark-x, mark-p, mark-c, mark-v, mark-f, mark-h, momentTable, next, nextOf}
+use Rattle.rules.specs.Moments.{mark-z, mark-w, mark-x, mark-p, mark-c, mark-v, mark-f, mark-h, limitLasts, momentTable, next, nextOf}
 use Rattle.rules.specs.Numbers.{settles, notice}
 use Rattle.rules.specs.Machine.{moment, Lawful}
 use Rattle.rules.specs.Book.{machine}
@@ -31,7 +31,7 @@ pub data IsRow (f : Figures) (s : Stock) (m : Moment) : Type 0 where
   row-z : m .mark ≡ mark-z → m .time ≡ s .end → stateOf s ≤ Limit → IsRow f s m
   row-w-early : m .mark ≡ mark-w → m .time ≡ 900_000 → clockOf s < m .time → stateOf s ≤ Late → IsRow f s m
   row-w-late : m .mark ≡ mark-w → m .time + 1_500_000 ≡ s .end → clockOf s < m .time → stateOf s ≤ Late → IsRow f s m
-  row-x : m .mark ≡ mark-x → m .time ≡ s .course .entry + 15_000 → stateOf s ≡ Limit → IsRow f s m
+  row-x : m .mark ≡ mark-x → m .time ≡ s .course .entry + limitLasts → stateOf s ≡ Limit → IsRow f s m
   row-p : m .mark ≡ mark-p → m .time ≡ s .course .pause + 600_000 → stateOf s ≡ Paused → IsRow f s m
   row-c : m .mark ≡ mark-c → m .time ≡ s .end + 300_000 → stateOf s ≡ Late → IsRow f s m
   row-v : m .mark ≡ mark-v → m .time ≡ f .oldest + 300_000 → stateOf s ≤ Late → (f .count ≡ 0 → ⊥) → IsRow f s m

@@ -47,6 +47,18 @@ ends h e v p = go (state-after h e v) (kept h e v .1 .1 .1 .1 .0)
     go (trades n x y q) (inr k) = absurd (no-pause h′ 1 q (λ z. omega arith) (λ z. omega arith) p)
     go (stays c n x y q) (inr k) = old (as-before q p) (k .1)
 
+-- in a pause after an event: the event started it, at its own date, or the stock was in it
+pub pause-before : (h : Whole) (e : Event Message Notice) → CanHappen h e → InPause (becomes machine h e)
+    → let begun = becomes machine h e .stock .course .pause in (begun ≡ dated machine e) ⊎ (InPause h × (begun ≡ h .stock .course .pause))
+pause-before h e v p = go (ends h e v p)
+  where
+    begun : ℕ
+    begun = becomes machine h e .stock .course .pause
+
+    go : Ends h e → (begun ≡ dated machine e) ⊎ (InPause h × (begun ≡ h .stock .course .pause))
+    go (new s q) = inl q
+    go (old i q) = inr (i, q)
+
 -- ------------------------------------------------------------------ a story
 
 -- a pause that was started at t has lasted, before the story or in it

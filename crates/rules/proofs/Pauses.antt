@@ -12,7 +12,7 @@ use lib.ListN.{take, drop}
 use Rattle.forms.proofs.Choice.{if-arms}
 use Rattle.forms.proofs.Decides.{not-among}
 use Rattle.rules.specs.Stock.{Whole, Limit, stateOf, clockOf, is, figuresOf}
-use Rattle.rules.specs.Moments.{mark-z, mark-w, mark-x, mark-c, Row, _at_while_, momentTable, earliest, next, nextOf, fire}
+use Rattle.rules.specs.Moments.{mark-z, mark-w, mark-x, mark-c, Row, _at_while_, limitLasts, momentTable, earliest, next, nextOf, fire}
 use Rattle.rules.specs.Messages.{letter-P, letter-X, after}
 use Rattle.rules.specs.Numbers.{settles, fresh, notice}
 use Rattle.rules.specs.Machine.{Event, message, moment, dated, Lawful, becomes, left}
@@ -37,10 +37,10 @@ use Rattle.rules.proofs.Stays.{InLimit, limit-before, limit-since}
 -- ------------------------------------------------------------------ the moments that come in Limit
 
 at-x : (h : Whole) → IsMoment (nextOf h) → nextOf h .mark ≡ mark-x
-    → (stateOf (h .stock) ≡ Limit) × (nextOf h .time ≡ h .stock .course .entry + 15_000)
+    → (stateOf (h .stock) ≡ Limit) × (nextOf h .time ≡ h .stock .course .entry + limitLasts)
 unfolding momentTable
 at-x h m =
-    by-row h m (λ m. m .mark ≡ mark-x → (stateOf (h .stock) ≡ Limit) × (m .time ≡ h .stock .course .entry + 15_000)) (omega (arith, eqb-true))
+    by-row h m (λ m. m .mark ≡ mark-x → (stateOf (h .stock) ≡ Limit) × (m .time ≡ h .stock .course .entry + limitLasts)) (omega (arith, eqb-true))
 
 -- z stands above x: the session has not ended
 x-open : (h : Whole) → IsMoment (nextOf h) → nextOf h .mark ≡ mark-x → nextOf h .time < h .stock .end
@@ -73,7 +73,7 @@ down-to F r later c (q ∷ rs) a = go (down-to F r later c rs (a .1)) (first-row
     go ih (tail p l) = subst (DownTo F r) (sym p) ih
 
 abbrev x-row : Whole → Row
-x-row h = mark-x at h .stock .course .entry + 15_000 while is Limit (h .stock)
+x-row h = mark-x at h .stock .course .entry + limitLasts while is Limit (h .stock)
 
 -- the rows above x: z, at the end, and w
 abbrev Above : Whole → Moment → Type 0
@@ -82,7 +82,7 @@ Above h m = (m .time ≡ h .stock .end) ⊎ (m .mark ≡ mark-w)
 -- what comes next in Limit: not after x, and at its time x or a row above it
 record NextInLimit (h : Whole) : Type 0 where
   is-moment : IsMoment (nextOf h)
-  by-then : nextOf h .time ≤ h .stock .course .entry + 15_000
+  by-then : nextOf h .time ≤ h .stock .course .entry + limitLasts
   which : DownTo (Above h) (x-row h) (nextOf h)
 
 next-in-limit : (h : Whole) → stateOf (h .stock) ≡ Limit → NextInLimit h
@@ -107,37 +107,41 @@ module _ (h : Whole) (n : Notice) (v : CanHappen h (moment n)) where
   is-moment : IsMoment (nextOf h)
   is-moment = machineLaws .its-time (v .0 .0) h (v .0 .1) .0
 
+  mark : n .mark ≡ nextOf h .mark
+  mark = ap (λ m. m .mark) is-next
+
   -- no moment has P's letter
-  not-P : ¬ (nextOf h .mark ≡ letter-P)
+  not-P : ¬ (n .mark ≡ letter-P)
   unfolding momentTable
-  not-P = by-row h is-moment (λ m. ¬ (m .mark ≡ letter-P)) (omega arith)
+  not-P p = by-row h is-moment (λ m. ¬ (m .mark ≡ letter-P)) (omega arith) (sym mark ∙ p)
 
   -- only x begins a pause
-  begins : ¬ InPause h → InPause (fire h)
-      → (stateOf (h .stock) ≡ Limit) × (nextOf h .time ≡ h .stock .course .entry + 15_000) × (nextOf h .time < h .stock .end)
-  begins c b =
-      let x : nextOf h .mark ≡ mark-x = go (state-after h (moment n) v) in
-      (at-x h is-moment x .0, at-x h is-moment x .1, x-open h is-moment x)
+  pub only-x : ¬ InPause h → InPause (fire h) → n .mark ≡ mark-x
+  only-x c b = go (state-after h (moment n) v)
     where
-      mark : n .mark ≡ nextOf h .mark
-      mark = ap (λ m. m .mark) is-next
-
-      which : StartsPause (moment n) → nextOf h .mark ≡ mark-x
-      which (inl p) = absurd (not-P (sym mark ∙ p))
-      which (inr (inl x)) = sym mark ∙ x
+      which : StartsPause (moment n) → n .mark ≡ mark-x
+      which (inl p) = absurd (not-P p)
+      which (inr (inl x)) = x
       which (inr (inr z)) = absurd z
 
-      go : After h (moment n) → nextOf h .mark ≡ mark-x
+      go : After h (moment n) → n .mark ≡ mark-x
       go (closes k q) = absurd (no-pause (fire h) 5 q (λ z. omega arith) (λ z. omega arith) b)
       go (to-pause k q) = which k
       go (enters k x q) = absurd (no-pause (fire h) 2 q (λ z. omega arith) (λ z. omega arith) b)
       go (trades k x y q) = absurd (no-pause (fire h) 1 q (λ z. omega arith) (λ z. omega arith) b)
       go (stays d k x y q) = absurd (c (⊎-map (λ p. sym q ∙ p) (λ p. sym q ∙ p) b))
 
+  -- x comes in Limit, 15,000 after the entry and before the end
+  pub when-x : n .mark ≡ mark-x → (stateOf (h .stock) ≡ Limit) × (n .time ≡ h .stock .course .entry + limitLasts) × (n .time < h .stock .end)
+  when-x x =
+      let limit = at-x h is-moment (sym mark ∙ x) in
+      let time : n .time ≡ nextOf h .time = ap (λ m. m .time) is-next in
+      (limit .0, time ∙ limit .1, rw time (x-open h is-moment (sym mark ∙ x)))
+
   -- w leaves a limit state as it is
   w-stays : (u : ℕ) → nextOf h .mark ≡ mark-w → InLimit u h → InLimit u (fire h)
   w-stays u e l =
-      let still = quiet h n v (λ t. omega (arith, l .0)) mark-w (ap (λ m. m .mark) is-next ∙ e) refl refl in
+      let still = quiet h n v (λ t. omega (arith, l .0)) mark-w (mark ∙ e) refl refl in
       (still .1 ∙ l .0, entered (kept h (moment n) v .1 .1 .1 .0) (λ k. still .0 (k .0)))
     where
       entered : IsNew (EntersLimit h (moment n)) (fire h .stock .course .entry) (dated machine (moment n)) (h .stock .course .entry)
@@ -146,12 +150,9 @@ module _ (h : Whole) (n : Notice) (v : CanHappen h (moment n)) where
       entered (inr k) o = k .1 ∙ l .1
 
   -- x begins a pause
-  x-pauses : nextOf h .mark ≡ mark-x → stateOf (h .stock) ≡ Limit → ¬ InPause h × InPause (fire h)
-  x-pauses e l = (no-pause h 2 l (λ z. omega arith) (λ z. omega arith), go (state-after h (moment n) v))
+  pub x-pauses : n .mark ≡ mark-x → ¬ InPause h × InPause (fire h)
+  x-pauses x = (no-pause h 2 (when-x x .0) (λ z. omega arith) (λ z. omega arith), go (state-after h (moment n) v))
     where
-      x : n .mark ≡ mark-x
-      x = ap (λ m. m .mark) is-next ∙ e
-
       go : After h (moment n) → InPause (fire h)
       go (closes k q) = absurd (not-among (letter-X ∷ mark-z ∷ mark-c ∷ []) _ mark-x x refl k)
       go (to-pause k q) = q
@@ -185,7 +186,7 @@ before-lawful t h (moment n ∷ es) v =
 -- ------------------------------------------------------------------ a pause begins only then
 
 -- a limit state that stands before t, entered 15,000 before, stood before an event at t or later too
-back : (h : Whole) (e : Event Message Notice) (es : Story) (t u : ℕ) → Lawful machine h (e ∷ es) → t ≡ u + 15_000
+back : (h : Whole) (e : Event Message Notice) (es : Story) (t u : ℕ) → Lawful machine h (e ∷ es) → t ≡ u + limitLasts
     → InLimit u (left machine (becomes machine h e) (before t es)) → InLimit u (left machine h (before t (e ∷ es)))
 back h e es t u v p l = before-by (λ s. InLimit u (left machine h s)) t e es (λ _. l)
     (λ k. here k (limit-before h e es u v (rw (before-clock t _ es (rest-lawful h e es v) (rw (event-clock h e es v) k)) at l)))
@@ -195,7 +196,7 @@ back h e es t u v p l = before-by (λ s. InLimit u (left machine h s)) t e es (�
     here k (inr q) = q
 
 only-then : (h : Whole) (es : Story) (t : ℕ) → Lawful machine h es → PauseAt t h es
-    → (u : ℕ) × (t ≡ u + 15_000) × InLimit u (left machine h (before t es)) × (t < h .stock .end)
+    → (u : ℕ) × (t ≡ u + limitLasts) × InLimit u (left machine h (before t es)) × (t < h .stock .end)
 unfolding notice
 only-then h [] t v p = absurd p
 only-then h (message m ∷ es) t v p =
@@ -205,19 +206,19 @@ only-then h (moment n ∷ es) t v (inr p) =
     let r = only-then (fire h) es t (v .2) p in
     (r .0, r .1, back h (moment n) es t (r .0) v (r .1) (r .2), rw (event-end h (moment n) es v) at (r .3))
 only-then h (moment n ∷ es) t v (inl p) =
-    let d : nextOf h .time ≡ t = ap (λ n. n .time) (sym (v .1)) ∙ p .0 in
-    let b = begins h n (v .0, v .1, tt) (p .1 .0) (p .1 .1) in
+    let w : CanHappen h (moment n) = (v .0, v .1, tt) in
+    let x = when-x h n w (only-x h n w (p .1 .0) (p .1 .1)) in
     let u = h .stock .course .entry in (
       u,
-      sym d ∙ b .1,
-      before-by (λ s. InLimit u (left machine h s)) t (moment n) es (λ k. absurd (omega arith)) (λ _. (b .0, refl)),
-      rw d at (b .2),
+      sym (p .0) ∙ x .1,
+      before-by (λ s. InLimit u (left machine h s)) t (moment n) es (λ k. absurd (omega arith)) (λ _. (x .0, refl)),
+      rw (p .0) at (x .2),
     )
 
 -- ------------------------------------------------------------------ and whenever
 
 whenever : (h : Whole) (es : Story) (T t u : ℕ) → Lawful machine h es → settles T (left machine h es) ≡ 14 → t ≤ T
-    → t ≡ u + 15_000 → t < h .stock .end → InLimit u (left machine h (before t es)) → PauseAt t h es
+    → t ≡ u + limitLasts → t < h .stock .end → InLimit u (left machine h (before t es)) → PauseAt t h es
 unfolding before notice
 whenever h [] T t u v q k p o = λ l.
     let n = next-in-limit h (l .0) in
@@ -247,7 +248,7 @@ whenever h (moment n ∷ es) T t u v q k p o =
         go (inl (inl e)) = absurd (omega (arith, at-t))
         go (inl (inr e)) =
             inr (rec (rw (before-clock t (fire h) es (v .2) (omega (arith, event-clock h (moment n) es v))) (w-stays h n (v .0, v .1, tt) u e l)))
-        go (inr (inl e)) = let x = x-pauses h n (v .0, v .1, tt) (ap (λ m. m .mark) e) (l .0) in inl (date ∙ at-t, (x .0, x .1))
+        go (inr (inl e)) = let x = x-pauses h n (v .0, v .1, tt) (ap (λ n. n .mark) (v .1) ∙ ap (λ m. m .mark) e) in inl (date ∙ at-t, (x .0, x .1))
         go (inr (inr e)) = absurd (omega (arith, at-t))
 
 -- ------------------------------------------------------------------ both
@@ -266,10 +267,10 @@ pauses end u es a time q t k = (only, always)
     since : (entered : ℕ) → InLimit entered (left machine h (before t es)) ↔ LimitSince entered h (before t es)
     since entered = limit-since entered h (before t es) (fresh-out end u) (before-lawful t h es (a .lawful))
 
-    only : PauseAt t h es → (entered : ℕ) × (t ≡ entered + 15_000) × LimitSince entered h (before t es) × (t < end)
+    only : PauseAt t h es → (entered : ℕ) × (t ≡ entered + limitLasts) × LimitSince entered h (before t es) × (t < end)
     only p = let r = only-then h es t (a .lawful) p in (r .0, r .1, since (r .0) .0 (r .2), r .3)
 
-    always : ((entered : ℕ) × (t ≡ entered + 15_000) × LimitSince entered h (before t es) × (t < end)) → PauseAt t h es
+    always : ((entered : ℕ) × (t ≡ entered + limitLasts) × LimitSince entered h (before t es) × (t < end)) → PauseAt t h es
     always r = whenever h es time t (r .0) (a .lawful) q k (r .1) (r .3) (since (r .0) .1 (r .2))
 
 -- ------------------------------------------------------------------ the kept dates

@@ -1,16 +1,17 @@
 -- How a pause ends: by the primary's reopening or by p, and a Late pause only in Closed.
 -- Assumes nothing.
-use Prim.Native.Nat.{ℕ, _+_, _≤_}
+use Prim.Native.Nat.{ℕ}
 use mathlib.Core.List.{[], _∷_}
 use mathlib.Core.Logic.{_⊎_, inl, inr}
 use mathlib.Core.Path.{_≡_, refl, ap, subst, _∙_}
 use native.Mathlib.Omega.{arith}
 use Rattle.forms.proofs.Decides.{past, eq-stable}
 use Rattle.rules.specs.Stock.{Whole, Paused, Late, Closed, stateOf, figuresOf}
-use Rattle.rules.specs.Moments.{mark-w, mark-p, mark-v, mark-h}
+use Rattle.rules.specs.Moments.{mark-w, mark-v, mark-h}
 use Rattle.rules.specs.Numbers.{fresh}
 use Rattle.rules.specs.Machine.{Event, message, moment, Lawful, becomes, left}
 use Rattle.rules.specs.Book.{machine, Story}
+use Rattle.rules.specs.Changes.{EndsPause}
 use Rattle.rules.specs.Demands.{leaves, CanHappen, PausesEnd, NeverAgain}
 use Rattle.rules.specs.Words.{itsMoment}
 use Rattle.rules.specs.declared.Setup.{Setup}
@@ -26,12 +27,9 @@ use Rattle.rules.proofs.PausedSince.{paused-since, no-pause}
 
 -- ------------------------------------------------------------------ from Paused
 
--- it stays, or the primary of the setup reopens it, or p ends it, by the date that the stock records
+-- it stays, or its pause ends, by the date that the stock records
 abbrev Resumed : Setup → Whole → Event Message Notice → Type 0
-Resumed u h e =
-    (stateOf (becomes machine h e .stock) ≡ Paused)
-    ⊎ ((time price : ℕ) × (e ≡ message (R time (u .primary) price)) × (h .stock .course .pause + 300_000 ≤ time))
-    ⊎ ((n : Notice) × (e ≡ moment n) × (n .mark ≡ mark-p) × (n .time ≡ h .stock .course .pause + 600_000))
+Resumed u h e = (stateOf (becomes machine h e .stock) ≡ Paused) ⊎ EndsPause u (h .stock .course .pause) e
 
 by-moment : (h : Whole) (n : Notice) → CanHappen h (moment n) → stateOf (h .stock) ≡ Paused
     → IsRow (figuresOf (h .window)) (h .stock) (itsMoment n) → Resumed (h .stock .setup) h (moment n)
@@ -46,7 +44,7 @@ by-moment h n v s (row-f k t a c) = absurd (omega arith)
 by-moment h n v s (row-h k t a b c) = inl (quiet h n v (λ t. omega arith) mark-h k refl refl .1 ∙ s)
 
 -- an event, whatever story came before it
-by-event : (h : Whole) (e : Event Message Notice) → CanHappen h e → stateOf (h .stock) ≡ Paused → Resumed (h .stock .setup) h e
+pub by-event : (h : Whole) (e : Event Message Notice) → CanHappen h e → stateOf (h .stock) ≡ Paused → Resumed (h .stock .setup) h e
 by-event h (message (T time price)) v s = absurd (omega (arith, takes-in (T time price) h (v .0)))
 by-event h (message (Q time participant bid offer)) v s = inl (quiet-quote time participant bid offer h v (λ t. omega arith) (λ l. omega arith) ∙ s)
 by-event h (message (O time participant price)) v s = absurd (omega (arith, takes-in (O time participant price) h (v .0)))

@@ -10,7 +10,7 @@ use lib.ListN.{length}
 use Rattle.forms.proofs.Choice.{if-arms}
 use Rattle.forms.proofs.Decides.{past, not-among}
 use Rattle.rules.specs.Stock.{Trade, Whole, Waiting, Trading, Limit, Paused, Late, Closed, stateOf, clockOf}
-use Rattle.rules.specs.Moments.{mark-x, mark-h, nextOf, fire}
+use Rattle.rules.specs.Moments.{mark-x, mark-h, limitLasts, nextOf, fire}
 use Rattle.rules.specs.Messages.{letter-T, letter-Q, letter-O, letter-P, timeOf}
 use Rattle.rules.specs.Numbers.{settles, notice, fresh}
 use Rattle.rules.specs.Machine.{Event, message, moment, dated, Lawful, becomes, left}
@@ -131,7 +131,7 @@ module _ (h : Whole) (e : Event Message Notice) (v : CanHappen h e) where
   date = dated machine e
 
   -- nothing happens in Closed, and a state over it is rubbish
-  awake : stateOf s ≤ Late
+  pub awake : stateOf s ≤ Late
   awake = let k : ¬ (5 < stateOf s) = λ l. sound h e v (inl (inl l)) in omega (arith, closed-event h e v)
 
   -- check 1 has seen it
@@ -159,7 +159,7 @@ module _ (h : Whole) (e : Event Message Notice) (v : CanHappen h e) where
       let p : ¬ (stateOf s ≤ Paused) = λ q. omega (arith, until-end q) in
       ⊎-elim (λ q. omega arith) (λ q. omega arith) (late-event h e v (omega (arith, awake))))
 
-  for-x : stateOf s′ ≡ Limit → date ≤ s′ .course .entry + 15_000
+  for-x : stateOf s′ ≡ Limit → date ≤ s′ .course .entry + limitLasts
   for-x a = at-most (λ l. ⊎-elim (λ q. omega arith) (λ q. not-after h e v (inr (inr (inr (inl (q .0, omega (arith, q .1))))))) (limit-before h e [] _ v (a, refl)))
 
   -- the pause was started by the event, early enough for p, or it was there

@@ -2,7 +2,7 @@
 -- moment that happened; h is the stock before it, and s′ the stock after it. No test of the rules is used: functions of this file compute windows
 -- and quotes. Two things come from the rules: the window at an event that starts a reference, which `trades` states in words, and the setter
 -- `with-quotes`. The demands `trades`, `quotes`, `reference`, `states` and `kept` say that each event does this, and `changes-only` says that
--- together they determine the stock. Words.antt says how to read it.
+-- together they determine the stock; `resumes` says how a pause ends. Words.antt says how to read it.
 -- Assumes nothing.
 use Prim.Native.Nat.{ℕ, _+_, _-_, _≤_}
 use mathlib.Core.Bool.{Bool}
@@ -19,6 +19,7 @@ use Rattle.rules.specs.Messages.{letter-T, letter-Q, letter-O, letter-P,
 use Rattle.rules.specs.Machine.{Event, message, moment, becomes}
 use Rattle.rules.specs.Book.{machine}
 use Rattle.rules.specs.Words.{IsMean, OnePercent, AtBand, Crossing, timeIn}
+use Rattle.rules.specs.declared.Setup.{Setup}
 use Rattle.rules.specs.declared.Quotes.{Quotes}
 use Rattle.rules.specs.declared.Stock.{Stock}
 use Rattle.rules.specs.declared.Notice.{Notice}
@@ -146,6 +147,12 @@ Closes e = IsOneOf (letterOf e) (letter-X ∷ mark-z ∷ mark-c ∷ [])
 -- P and x start a pause
 abbrev pub StartsPause : Event Message Notice → Type 0
 StartsPause e = IsOneOf (letterOf e) (letter-P ∷ mark-x ∷ [])
+
+-- a pause that began then ends by the event: the primary's reopening, 300,000 or more after it began, or p, 600,000 after it
+abbrev pub EndsPause : Setup → ℕ → Event Message Notice → Type 0
+EndsPause u begun e =
+    ((time price : ℕ) × (e ≡ message (R time (u .primary) price)) × (begun + 300_000 ≤ time))
+    or ((n : Notice) × (e ≡ moment n) × (n .mark ≡ mark-p) × (n .time ≡ begun + 600_000))
 
 -- the quotes are looked at: on every new reference, with which Trading is entered or its bands change (also where Limit ends), and in
 -- Trading on a quote and on w, which changes k

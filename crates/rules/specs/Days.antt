@@ -1,16 +1,17 @@
 -- Days as they are printed (document 01, "The day program", "Easy slips"), document 01's own first.
 -- Assumes nothing.
-use Prim.Native.Nat.{ℕ}
+use Prim.Native.Nat.{ℕ, zero, suc, _+_}
 use mathlib.Core.Bool.{Bool, true, false}
-use mathlib.Core.List.{List, [], _∷_, _++_}
+use mathlib.Core.List.{List, [], _∷_, _++_, map}
 use lib.Dec.{eqb}
 use Rattle.forms.specs.Choice.{if_then_else_}
 use Rattle.rules.specs.Stock.{Whole}
 use Rattle.rules.specs.Moments.{mark-z, mark-w, mark-x, mark-p, mark-c, mark-v, mark-f, mark-h}
 use Rattle.rules.specs.Messages.{letter-T, letter-Q, letter-O, letter-P, letter-R, letter-X, letter, timeOf}
 use Rattle.rules.specs.Numbers.{answer}
-use Rattle.rules.specs.Machine.{Call, tell, settle, On, stepIn}
-use Rattle.rules.specs.Book.{machine, blank, book, bookTells, bookSettles}
+use Rattle.rules.specs.Machine.{Call, tell, settle, On, notices, stepIn}
+use Rattle.rules.specs.Book.{machine, blank, book, story, bookTells, bookSettles}
+use Rattle.rules.specs.Readings.{limitPauses}
 use Rattle.rules.specs.declared.Setup.{Setup}
 use Rattle.rules.specs.declared.Answer.{Answer}
 use Rattle.rules.specs.declared.Notice.{Notice}
@@ -27,7 +28,7 @@ abbrev pub noticed : Notice → List ℕ
 noticed n = line (n .time) (n .mark) (n .answer)
 
 -- a call on the one stock of a book
-abbrev on-0 : Call Message → On (Call Message)
+abbrev pub on-0 : Call Message → On (Call Message)
 on-0 c = record { at = 0; it = c }
 
 -- what calls on a book of one stock print: a settling that does no moment prints nothing
@@ -506,7 +507,73 @@ refusedPauses = record {
       [];
 }
 
+-- limit pauses as soon as they can come: R 300,000 after the first pause's start finds the offer at the band, and x comes 15,000 after that;
+-- then one with the primary's own pause before it
+abbrev pub soonestAgain : Day
+soonestAgain = record {
+  end = 23_400_000;
+  setup = listed 2;
+  calls =
+      tell (O 0 2 115_000) ∷
+      tell (Q 0 5 0 92_000) ∷
+      settle 315_000 ∷ settle 315_000 ∷ settle 315_000 ∷
+      tell (R 315_000 2 115_000) ∷
+      settle 630_000 ∷ settle 630_000 ∷ settle 630_000 ∷
+      tell (R 630_000 2 70_000) ∷
+      tell (P 630_000 2) ∷
+      settle 930_000 ∷ settle 930_000 ∷ settle 930_000 ∷
+      tell (R 930_000 2 102_200) ∷
+      settle 945_000 ∷
+      [];
+  prints =
+      (0 ∷ letter-O ∷ 0 ∷ 1 ∷ 115_000 ∷ 92_000 ∷ 138_000 ∷ 0 ∷ 0 ∷ 0 ∷ 0 ∷ []) ∷
+      (0 ∷ letter-Q ∷ 0 ∷ 2 ∷ 115_000 ∷ 92_000 ∷ 138_000 ∷ 0 ∷ 0 ∷ 92_000 ∷ 3 ∷ []) ∷
+      (15_000 ∷ mark-x ∷ 0 ∷ 3 ∷ 115_000 ∷ 0 ∷ 0 ∷ 0 ∷ 0 ∷ 92_000 ∷ 1 ∷ []) ∷
+      (30_000 ∷ mark-h ∷ 0 ∷ 3 ∷ 115_000 ∷ 0 ∷ 0 ∷ 0 ∷ 0 ∷ 92_000 ∷ 1 ∷ []) ∷
+      (300_000 ∷ mark-v ∷ 0 ∷ 3 ∷ 115_000 ∷ 0 ∷ 0 ∷ 0 ∷ 0 ∷ 92_000 ∷ 1 ∷ []) ∷
+      (315_000 ∷ letter-R ∷ 0 ∷ 2 ∷ 115_000 ∷ 92_000 ∷ 138_000 ∷ 0 ∷ 0 ∷ 92_000 ∷ 3 ∷ []) ∷
+      (330_000 ∷ mark-x ∷ 0 ∷ 3 ∷ 115_000 ∷ 0 ∷ 0 ∷ 0 ∷ 0 ∷ 92_000 ∷ 1 ∷ []) ∷
+      (345_000 ∷ mark-h ∷ 0 ∷ 3 ∷ 115_000 ∷ 0 ∷ 0 ∷ 0 ∷ 0 ∷ 92_000 ∷ 1 ∷ []) ∷
+      (615_000 ∷ mark-v ∷ 0 ∷ 3 ∷ 115_000 ∷ 0 ∷ 0 ∷ 0 ∷ 0 ∷ 92_000 ∷ 1 ∷ []) ∷
+      (630_000 ∷ letter-R ∷ 0 ∷ 1 ∷ 70_000 ∷ 56_000 ∷ 84_000 ∷ 0 ∷ 0 ∷ 92_000 ∷ 2 ∷ []) ∷
+      (630_000 ∷ letter-P ∷ 0 ∷ 3 ∷ 70_000 ∷ 0 ∷ 0 ∷ 0 ∷ 0 ∷ 92_000 ∷ 1 ∷ []) ∷
+      (660_000 ∷ mark-h ∷ 0 ∷ 3 ∷ 70_000 ∷ 0 ∷ 0 ∷ 0 ∷ 0 ∷ 92_000 ∷ 1 ∷ []) ∷
+      (900_000 ∷ mark-w ∷ 0 ∷ 3 ∷ 70_000 ∷ 0 ∷ 0 ∷ 0 ∷ 0 ∷ 92_000 ∷ 1 ∷ []) ∷
+      (930_000 ∷ mark-v ∷ 0 ∷ 3 ∷ 70_000 ∷ 0 ∷ 0 ∷ 0 ∷ 0 ∷ 92_000 ∷ 1 ∷ []) ∷
+      (930_000 ∷ letter-R ∷ 0 ∷ 2 ∷ 102_200 ∷ 92_000 ∷ 112_400 ∷ 0 ∷ 0 ∷ 92_000 ∷ 3 ∷ []) ∷
+      (945_000 ∷ mark-x ∷ 0 ∷ 3 ∷ 102_200 ∷ 0 ∷ 0 ∷ 0 ∷ 0 ∷ 92_000 ∷ 1 ∷ []) ∷
+      [];
+}
+
 unfoldable pub days : List Day
 days =
     theDay ∷ aLimit ∷ byTheClose ∷ noOpening ∷ oneMillisecond ∷ aLatePause ∷ aPause ∷ aStraddle ∷
-    theFlags ∷ openedByF ∷ theTest ∷ theTies ∷ narrowed ∷ limitAgain ∷ theLooks ∷ offerStraddle ∷ refusedPauses ∷ []
+    theFlags ∷ openedByF ∷ theTest ∷ theTies ∷ narrowed ∷ limitAgain ∷ theLooks ∷ offerStraddle ∷ refusedPauses ∷
+    soonestAgain ∷ []
+
+-- ------------------------------------------------------------------ limit pauses (R-2)
+
+-- the starts of the limit pauses that calls on a book of one stock lead to
+unfoldable pub pausesBy : ℕ → Setup → List (Call Message) → List ℕ
+pausesBy end u cs = limitPauses (notices (story end (u ∷ []) (map on-0 cs) 0))
+
+abbrev pub pausesOf : Day → List ℕ
+pausesOf d = pausesBy (d .end) (d .setup) (d .calls)
+
+-- n reopenings at a price, the first at `time` and each 315,000 after the one before, with the moments that are due by then
+unfoldable pub reopened : (time price n : ℕ) → List (Call Message)
+reopened time price zero = []
+reopened time price (suc n) = settle time ∷ settle time ∷ settle time ∷ settle time ∷ tell (R time 2 price) ∷ reopened (time + 315_000) price n
+
+-- n dates, the first at `time` and each d after the one before
+unfoldable pub evenly : (d time n : ℕ) → List ℕ
+evenly d time zero = []
+evenly d time (suc n) = time ∷ evenly d (time + d) n
+
+-- one limit pause after another, from the opening to the end: each is reopened 300,000 after its start, at a price whose band is at the offer
+abbrev pub allDay : List (Call Message)
+allDay =
+    tell (O 0 2 115_000) ∷
+    tell (Q 0 5 0 92_000) ∷
+    reopened 315_000 115_000 2 ++ reopened 945_000 102_200 67 ++ reopened 22_050_000 115_000 4 ++
+    settle 23_010_000 ∷ []

@@ -12,6 +12,7 @@
 --   ⊥, Otherwise            never holds, always holds
 --   a ≡ b, a - b            a equals b, the difference, which is 0 where b is the greater
 --   Some P l, IsOneOf n l   P holds of one of the list l, n is one of l
+--   Every P l               P holds of each of the list l
 --   a ∷ b ∷ [], as ++ bs    a list of a and b, two lists in a row
 --   Sublistᴰ as bs          as is bs, of which any may be left out; the others are in order
 --   getD l i d              the ith of l, from 0, and d where l has none
@@ -31,6 +32,8 @@
 --   askedOf end us cs ds i  the calls of ds on the ith stock, made after cs, accepted or refused, each with the stock that it found
 --   journalOf end us cs i   the calls of cs on the ith stock that were answered 0, each with the stock that it found
 --   called machine xs       the calls of such a list, without the stocks
+--   limitPauses ns          the starts of the limit pauses among the notices ns, and `notices es` are those of the story es
+--   Apart d ts              any two of the dates ts are at least d apart
 --   Allowed end u es        es is a story of a stock with setup u and session's end `end`, in a row that the rules allow
 --   leaves end u es         the stock that the story es leaves
 -- Assumes nothing.
@@ -44,17 +47,18 @@ use Rattle.forms.specs.Tables.{every}
 use Rattle.forms.specs.Words.{_or_, _and_, IsOneOf, Gives}
 use Rattle.band.specs.declared.Bands.{Bands}
 use Rattle.rules.specs.Stock.{Trade, Whole, Waiting, Trading, Limit, Paused, Late, Closed, stateOf, clockOf, figuresOf, meanIn}
-use Rattle.rules.specs.Moments.{mark-p, mark-f, fire}
+use Rattle.rules.specs.Moments.{mark-f, fire}
 use Rattle.rules.specs.Messages.{after}
 use Rattle.rules.specs.Numbers.{tells, settles, reads, setsUp, afterTelling, afterSettling, notice, tellAnswer, settleAnswer, readAnswer, setupAnswer, fresh, nextAnswer}
 use Rattle.rules.specs.Machine.{Machine, MachineLaws, Alike, Call, tell, settle, On, of, Every, journal, IsJournal, Event, message, moment, messages, notices, Lawful, becomes, left, Asked, numberOf, called, Calls, stock, numberIn, stepIn}
 use Rattle.rules.specs.Book.{machine, Story, Accepted, noSetup, blank, book, now, story, askedOf, journalOf, Settled, bookTells, bookSettles, bookReads, bookNext}
 use Rattle.rules.specs.Words.{IsShape, IsEnd, IsSetup, IsMean, HasBands, AtBand, Crossing, moments, IsFirst, Rubbish, refusals, ReachesTable, WrongState, TooLate, NoStraddle, settleRefusals, readRefusals, bookRefusals, setupRefusals, ShowsNothing, Shows, IsTime, itsMoment, AnswerInRange, NoticeInRange, UpcomingInRange, ShowsNone, ShowsNext}
-use Rattle.rules.specs.Changes.{recent, TradesAfter, Quoted, QuotesAfter, ReferenceAfter, stateAfter, KeptAfter}
-use Rattle.rules.specs.Readings.{joined, lastQuote, NoneStarted, StartedBy, lastDate, countOf, MomentsOnly}
+use Rattle.rules.specs.Changes.{recent, TradesAfter, Quoted, QuotesAfter, ReferenceAfter, EndsPause, stateAfter, KeptAfter}
+use Rattle.rules.specs.Readings.{joined, lastQuote, NoneStarted, StartedBy, lastDate, limitPauses, countOf, MomentsOnly}
 use Rattle.rules.specs.Pauses.{before, PauseAt, LimitSince, PausedSince}
+use Rattle.rules.specs.LimitPauses.{Apart, leastDistance, pausesBound}
 use Rattle.rules.specs.Examples.{right, byHand}
-use Rattle.rules.specs.Days.{asPrinted, days}
+use Rattle.rules.specs.Days.{asPrinted, days, listed, aLatePause, aPause, aStraddle, soonestAgain, limitAgain, pausesBy, pausesOf, evenly, allDay}
 use Rattle.rules.specs.Edges.{asAnswered, edges}
 use Rattle.rules.specs.declared.Setup.{Setup}
 use Rattle.rules.specs.declared.Notice.{Notice}
@@ -411,7 +415,7 @@ QuotesLookedAt = (end : ℕ) (u : Setup) (es : Story) → Allowed end u es
     → let s = leaves end u es .stock in
     stateOf s ≡ Trading → ¬ (AtBand s and ¬ Crossing s)
 
--- ---------------------------------------------------------------- trades, pauses and the first five minutes
+-- ---------------------------------------------------------------- trades and pauses
 
 -- No trade is accepted outside bands in force, nor in a pause.
 abbrev pub TradesInBands : Type 0
@@ -433,14 +437,43 @@ PausesEnd = (end : ℕ) (u : Setup) (es : Story) → Allowed end u es
     → let h = leaves end u es in
     stateOf (h .stock) ≡ Paused → (begun : ℕ) × PausedSince begun (fresh end u) es
     × ((e : Event Message Notice) → CanHappen h e
-    → (stateOf (becomes machine h e .stock) ≡ Paused)
-    ⊎ ((time price : ℕ) × (e ≡ message (R time (u .primary) price)) × (begun + 300_000 ≤ time))
-    ⊎ ((n : Notice) × (e ≡ moment n) × (n .mark ≡ mark-p) × (n .time ≡ begun + 600_000)))
+    → (stateOf (becomes machine h e .stock) ≡ Paused) ⊎ EndsPause u begun e)
 
 -- A Late pause never trades again.
 abbrev pub NeverAgain : Type 0
 NeverAgain = (h : Whole) (es : Story) → Lawful machine h es → stateOf (h .stock) ≡ Late
     → (stateOf (left machine h es .stock) ≡ Late) ⊎ (stateOf (left machine h es .stock) ≡ Closed)
+
+-- ---------------------------------------------------------------- how often a stock can pause (R-2)
+
+-- A limit pause is one that x began. The starts of a story's limit pauses are the dates at which a moment begins a pause, Paused or Late.
+abbrev pub LimitPausesAre : Type 0
+LimitPausesAre = (end : ℕ) (u : Setup) (es : Story) → Allowed end u es
+    → (t : ℕ) → IsOneOf t (limitPauses (notices es)) ↔ PauseAt t (fresh end u) es
+
+-- After an accepted setup and any calls, any two limit pauses of one stock start at least d apart; d is 315,000.
+abbrev pub PausesApart : ℕ → Type 0
+PausesApart d = (end : ℕ) (us : List Setup) → Accepted end us → (cs : Calls machine) (i : ℕ) → i < length us
+    → Apart d (limitPauses (notices (story end us cs i)))
+
+-- For no greater d is this so: a day has two limit pauses that are exactly so far apart.
+abbrev pub NoFarther : Type 0
+NoFarther = (d : ℕ) → PausesApart d → d ≤ leastDistance
+
+-- Dates of one session that are so far apart are at most n; n is 75.
+abbrev pub DatesFew : ℕ → Type 0
+DatesFew n = (ts : List ℕ) → Apart leastDistance ts → Every (λ t. t < 23_400_000) ts → length ts ≤ n
+
+-- For no smaller n is this so.
+abbrev pub NoFewer : Type 0
+NoFewer = (n : ℕ) → DatesFew n → pausesBound ≤ n
+
+-- Hence, after an accepted setup and any calls, one stock never has more than 75 limit pauses in a day.
+abbrev pub PausesFew : Type 0
+PausesFew = (end : ℕ) (us : List Setup) → Accepted end us → (cs : Calls machine) (i : ℕ) → i < length us
+    → length (limitPauses (notices (story end us cs i))) ≤ pausesBound
+
+-- ---------------------------------------------------------------- the first five minutes
 
 -- A story that was Waiting before 300,000, settled to 300,000 or later, has exactly one f.
 abbrev pub OneF : Type 0
@@ -456,6 +489,17 @@ ByHand = every right byHand ≡ true
 -- Days as they are printed, document 01's own first.
 abbrev pub AsPrinted : Type 0
 AsPrinted = every asPrinted days ≡ true
+
+-- The limit pauses of days: two that start exactly 315,000 apart, and one more after a pause that P began; one with p before it; one by a bid; none
+-- where P began the pause and z came before x; a Late one; and 74 in one day.
+abbrev pub PausesCounted : Type 0
+PausesCounted =
+    pausesOf soonestAgain ≡ 15_000 ∷ 330_000 ∷ 945_000 ∷ []
+    and pausesOf aPause ≡ 19_000 ∷ 634_000 ∷ []
+    and pausesOf limitAgain ≡ 468_000 ∷ []
+    and pausesOf aStraddle ≡ []
+    and pausesOf aLatePause ≡ 3_005_000 ∷ []
+    and pausesBy 23_400_000 (listed 2) allDay ≡ evenly 315_000 15_000 74
 
 -- Records and calls at the edges of what the rules allow.
 abbrev pub AtEdges : Type 0
@@ -514,7 +558,14 @@ pub record Demands : Type 1 where
   pub pauses : PausesBegin
   pub resumes : PausesEnd
   pub never-again : NeverAgain
+  pub limit-pauses : LimitPausesAre
+  pub pauses-apart : PausesApart leastDistance
+  pub no-farther : NoFarther
+  pub dates-few : DatesFew pausesBound
+  pub no-fewer : NoFewer
+  pub pauses-few : PausesFew
   pub one-f : OneF
   pub by-hand : ByHand
   pub as-printed : AsPrinted
+  pub pauses-counted : PausesCounted
   pub at-edges : AtEdges

@@ -11,6 +11,7 @@ pub mod Machine
 pub mod Book
 pub mod Readings
 pub mod Pauses
+pub mod LimitPauses
 pub mod Examples
 pub mod Days
 pub mod Edges

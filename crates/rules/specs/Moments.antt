@@ -61,13 +61,17 @@ infix 5 _at_while_
 abbrev pub _at_while_ : ℕ → ℕ → Bool → Row
 mark at time while comes = record { mark = mark; time = time; comes = comes }
 
+-- x comes so long after the entry into Limit
+abbrev pub limitLasts : ℕ
+limitLasts = 15_000
+
 -- all moments, in the order of ties; v is that of the oldest trade
 unfoldable pub momentTable : Figures → Stock → List Row
 momentTable f s =
     (mark-z at s .end while leb (stateOf s) 2) ∷
     (mark-w at 900_000 while allOf (leb (stateOf s) 4 ∷ ltb (clockOf s) 900_000 ∷ [])) ∷
     (mark-w at s .end - 1_500_000 while allOf (leb (stateOf s) 4 ∷ ltb (clockOf s) (s .end - 1_500_000) ∷ [])) ∷
-    (mark-x at s .course .entry + 15_000 while is Limit s) ∷
+    (mark-x at s .course .entry + limitLasts while is Limit s) ∷
     (mark-p at s .course .pause + 600_000 while is Paused s) ∷
     (mark-c at s .end + 300_000 while is Late s) ∷
     (mark-v at f .oldest + 300_000 while allOf (leb (stateOf s) 4 ∷ not (noTrades f) ∷ [])) ∷

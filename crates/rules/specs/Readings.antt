@@ -1,11 +1,13 @@
 -- A stock read off its accepted history (demand 2): what document 01 says of held trades, quotes, the reference and the clock in "States",
--- "Moments" and "Messages". `Changes` says in words what one event does; the window at an event that starts a reference is the stock's.
+-- "Moments" and "Messages", and its limit pauses (R-2). `Changes` says in words what one event does; the window at an event that starts a
+-- reference is the stock's.
 -- Assumes nothing.
 use Prim.Native.Nat.{ℕ, _+_}
 use mathlib.Core.List.{List, [], _∷_}
 use lib.Dec.{eqb}
 use Rattle.forms.specs.Choice.{if_then_else_}
 use Rattle.rules.specs.Stock.{Trade, Whole}
+use Rattle.rules.specs.Moments.{mark-x}
 use Rattle.rules.specs.Machine.{message, moment, dated, becomes, Since}
 use Rattle.rules.specs.Book.{machine, Story}
 use Rattle.rules.specs.Changes.{joins, quoteBy, Starts, StartsOne}
@@ -44,6 +46,13 @@ StartedBy price start h es = Since machine (λ h e. Starts h e price) NoneStarte
 abbrev pub lastDate : ℕ → Story → ℕ
 lastDate last [] = last
 lastDate last (e ∷ es) = lastDate (dated machine e) es
+
+-- ------------------------------------------------------------------ limit pauses (R-2)
+
+-- the starts of the limit pauses among a stock's notices, in order: a limit pause is one that x began, Paused or Late, and it starts at x's date
+unfoldable pub limitPauses : List Notice → List ℕ
+limitPauses [] = []
+limitPauses (n ∷ ns) = if eqb (markOf n) mark-x then n .time ∷ limitPauses ns else limitPauses ns
 
 -- ------------------------------------------------------------------ moments in a row
 
