@@ -14,9 +14,9 @@
  * To decide whether a price may trade now, pass the answer to sumpheron_may_trade. Do not use the state alone: after the numbers 1, 2
  * and 3 the answer is about no stock and all zeros, and state 0 is Waiting.
  *
- * Later versions may add functions, constants and struct fields; what is declared here keeps its name and its parameters. So refer
- * to fields by name, take sizes from sizeof, expect numbers that are not listed yet, and compare the versions once at startup.
- * docs/ENGINE.md is the guide.
+ * Later versions may add functions, constants and struct fields; what is declared here keeps its name and its parameters, except the
+ * fields of a record, which may change. So refer to fields by name, take sizes from sizeof, expect numbers that are not listed yet,
+ * and compare the versions once at startup. docs/ENGINE.md is the guide.
  *
  * This example sets up a book of one stock, tells it the opening price, and asks which prices may trade:
  *
@@ -57,7 +57,7 @@ extern "C" {
 
 /* Incremented whenever a struct, a function or a number changes. Do not mix a header and a library of different versions: the library
  * writes answers of the size that it was built with, and can overrun your struct. */
-#define SUMPHERON_VERSION 3
+#define SUMPHERON_VERSION 4
 
 /* Marks functions whose result must be used: the compiler warns if a caller ignores it. */
 #if (defined __cplusplus && __cplusplus >= 201703L) || (defined __STDC_VERSION__ && __STDC_VERSION__ >= 202000L)
@@ -191,11 +191,11 @@ enum sumpheron_mark {
     SUMPHERON_MARK_H = 0x68
 };
 
-/* ---------------------------------------------------------------- structs: rows of 32-bit numbers, without padding */
+/* ---------------------------------------------------------------- structs: unsigned numbers, without padding */
 
-/* A stock's record. The caller owns the memory, and only the library writes it. Use the answers to learn about a stock; the field
- * names are for reading a dump (docs/RECORD.md). The stock's trades are in the arrays of times and prices: the first `trades` of its
- * places, oldest first. */
+/* A stock's record: 200 bytes, aligned to 8. The caller owns the memory, and only the library writes it. Use the answers to learn about
+ * a stock; the field names are for reading a dump (docs/RECORD.md). The stock's trades are in the arrays of times and prices: the
+ * first `trades` of its places, oldest first. */
 struct sumpheron_record {
     /* the setup */
     uint32_t tier;
@@ -213,8 +213,9 @@ struct sumpheron_record {
     uint32_t limit_entry;
     /* when a pause last started */
     uint32_t pause_start;
-    /* the reference price, 0 for none */
-    uint32_t reference;
+    /* the reference price is this sum of prices divided by this count of them, and not rounded; both are 0 for none */
+    uint64_t reference_sum;
+    uint64_t reference_count;
     /* since when it has been the reference */
     uint32_t reference_start;
     /* not 0: the moment h of this start has not happened */
@@ -223,7 +224,7 @@ struct sumpheron_record {
     uint32_t bids[SUMPHERON_PARTICIPANTS];
     uint32_t offers[SUMPHERON_PARTICIPANTS];
     /* how many trades are held */
-    uint32_t trades;
+    uint64_t trades;
 };
 
 /* What a call returns: its number, and the stock's values after the call. A refusal leaves the values unchanged. After 1, 2 and 3
@@ -233,7 +234,7 @@ struct sumpheron_answer {
     uint32_t number;
     /* enum sumpheron_state */
     uint32_t state;
-    /* the reference price, 0 for none */
+    /* the reference price, rounded to a whole number (a half goes up), 0 for none; the bands are worked out from the exact one */
     uint32_t reference;
     /* the bands in force, both 0 outside Trading and Limit; the upper one may lie above the highest price */
     uint32_t lower;

@@ -13,7 +13,7 @@ LIBRARY = Path(os.environ.get("SUMPHERON_LIBRARY") or ROOT / "dist/lib").resolve
 HEADER = ROOT / "include/sumpheron.h"
 # Where Cargo builds the packages of the workspace, and the programs that it writes there.
 TARGET = ROOT / "target/cargo"
-SECOND, GENERATE, TIES = (TARGET / "release" / name for name in ("second", "generate", "ties"))
+SECOND, GENERATE, TIES, FRACTIONS = (TARGET / "release" / name for name in ("second", "generate", "ties", "fractions"))
 
 
 def check(good, fault):

@@ -28,6 +28,7 @@ PAIR = re.compile(r"(?:file: (.+)\n)?old: (.+)\nnew: ?(.*)\n")
 NO_EDIT = "it is not a sentence with lines file, old and new below it"
 UNPROVED = ("`search`: no proof of", "`omega`: the goal does not follow")
 ERROR = re.compile(r"^(.+?):(\d+):\d+: error: (?:in )?`(\S+)`: (.*)$", re.M)
+INVALID = re.compile(r"^(?:specs/.*error: |src/.*error\[).*$", re.M)
 
 
 class Checked(namedtuple("Checked", "status printed line")):
@@ -191,20 +192,28 @@ def stated(crate):
     return in_words(crate) | {(file, name) for _, file, name in laws(crate)}
 
 
+def invalid(printed):
+    """The end of the first error in specs/ or of the compiler in src/, if a check printed one: the edit made no rule or no program."""
+    error = INVALID.search(printed)
+    return error[0][-120:] if error else None
+
+
 def fault(edit, printed, line=""):
     """Why a refused edit shows nothing, or None if it makes a fact false. It is decided by what the check printed, in which paths are
     relative to the crate, and by the source line of its first error.
 
-    An edit of src/ must be refused first at a proof obligation, and not because a proof file no longer fits the code. If it changes
-    tools/walks too, the function's walk was written again and must be refused at its last step, which asks for the promise. An edit of
-    specs/ must be refused at a law or a theorem in words that fails by itself (statements.py says which these are). An edit of proofs/
-    shows nothing.
+    With the edit, specs/ and src/ must still be valid. An edit of src/ must be refused first at a proof obligation, and not because a
+    proof file no longer fits the code. If it changes tools/walks too, the function's walk was written again and must be refused at its last
+    step, which asks for the promise. An edit of specs/ must be refused at a law or a theorem in words that fails by itself (statements.py
+    says which these are). An edit of proofs/ shows nothing.
     """
     first = ERROR.search(printed)
     if not edit.changes:
         return NO_EDIT
     if edit.touches("proofs"):
         return "it edits a proof"
+    if why := invalid(printed):
+        return f"it is not valid: {why}"
     if not first:
         return "no error that names a theorem"
     if edit.touches("specs"):

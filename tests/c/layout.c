@@ -5,6 +5,7 @@
 
 #include <assert.h>
 #include <inttypes.h>
+#include <stdalign.h>
 #include <stdio.h>
 #include <string.h>
 
@@ -29,8 +30,8 @@ struct field {
 static const struct field RECORD[] = {
     FIELD(record, tier), FIELD(record, leverage), FIELD(record, primary), FIELD(record, close),
     FIELD(record, session_end), FIELD(record, state), FIELD(record, clock), FIELD(record, f_to_come),
-    FIELD(record, limit_entry), FIELD(record, pause_start), FIELD(record, reference), FIELD(record, reference_start),
-    FIELD(record, h_to_come), SIXTEEN(bids), SIXTEEN(offers), FIELD(record, trades)};
+    FIELD(record, limit_entry), FIELD(record, pause_start), FIELD(record, reference_sum), FIELD(record, reference_count),
+    FIELD(record, reference_start), FIELD(record, h_to_come), SIXTEEN(bids), SIXTEEN(offers), FIELD(record, trades)};
 
 static const struct field ANSWER[] = {
     FIELD(answer, number), FIELD(answer, state), FIELD(answer, reference),
@@ -48,8 +49,8 @@ static const struct field UPCOMING[] = {FIELD(upcoming, number), FIELD(upcoming,
 /* No struct has padding: the sizes of its fields add up to the size of the struct. */
 static_assert(SIZE(record, tier) + SIZE(record, leverage) + SIZE(record, primary) + SIZE(record, close) + SIZE(record, session_end) +
                   SIZE(record, state) + SIZE(record, clock) + SIZE(record, f_to_come) + SIZE(record, limit_entry) + SIZE(record, pause_start) +
-                  SIZE(record, reference) + SIZE(record, reference_start) + SIZE(record, h_to_come) + SIZE(record, bids) + SIZE(record, offers) +
-                  SIZE(record, trades) == sizeof(struct sumpheron_record), "a record has padding");
+                  SIZE(record, reference_sum) + SIZE(record, reference_count) + SIZE(record, reference_start) + SIZE(record, h_to_come) +
+                  SIZE(record, bids) + SIZE(record, offers) + SIZE(record, trades) == sizeof(struct sumpheron_record), "a record has padding");
 static_assert(SIZE(answer, number) + SIZE(answer, state) + SIZE(answer, reference) + SIZE(answer, lower) + SIZE(answer, upper) +
                   SIZE(answer, bid) + SIZE(answer, bid_flag) + SIZE(answer, offer) + SIZE(answer, offer_flag) ==
                   sizeof(struct sumpheron_answer), "an answer has padding");
@@ -57,41 +58,56 @@ static_assert(SIZE(notice, answer) + SIZE(notice, mark) + SIZE(notice, time) == 
 static_assert(SIZE(upcoming, number) + SIZE(upcoming, mark) + SIZE(upcoming, time) == sizeof(struct sumpheron_upcoming),
               "what comes next has padding");
 
+/* The size and the alignment that docs/RECORD.md says. */
+static_assert(sizeof(struct sumpheron_record) == 200 && alignof(struct sumpheron_record) == 8, "a record has another size or alignment");
+static_assert(sizeof(struct sumpheron_answer) == 36 && alignof(struct sumpheron_answer) == 4, "an answer has another size or alignment");
+static_assert(sizeof(struct sumpheron_notice) == 44 && alignof(struct sumpheron_notice) == 4, "a notice has another size or alignment");
+static_assert(sizeof(struct sumpheron_upcoming) == 12 && alignof(struct sumpheron_upcoming) == 4,
+              "what comes next has another size or alignment");
+
 /* ---------------------------------------------------------------- the values that the day must give */
 
-/* Stock 0 as it was set up, and stock 1 at the end. */
-static const uint32_t RECORDS[][LENGTH(RECORD)] = {
-    {1, 1, 6, 31000, 3700000, 0, 0, 1},
-    {2, 3, 9, 115000, 3700000, 4, 3150003, 1, 3090002, 3105002, 100000, 1001, 0,
-     159985, 159986, 159987, 159988, 159989, 159990, 159991, 159992, 159993, 159994, 159995, 159996, 159997, 159998, 159999, 160000,
-     160001, 160002, 160003, 160004, 160005, 160006, 160007, 160008, 160009, 160010, 160011, 160012, 160013, 160014, 160015, 160016,
-     5}};
+/* The trades of stock 1. The eighth moves the reference from 600,000,000 to the mean of all eight: their sum needs more than 32 bits, and
+ * their count does not divide it. */
+static const uint32_t PRICES[] = {600000001, 600000002, 600000003, 600000004, 600000005,
+                                  600000006, 600000007, 648000003, 606000001, 606000002};
 
-/* Reading in Trading, and a trade outside the bands in Limit. */
-static const uint32_t ANSWERS[][LENGTH(ANSWER)] = {
-    {0, 1, 100000, 40000, 160000, 159999, 1, 160001, 2},
-    {12, 2, 100000, 40000, 160000, 160000, 3, 160001, 2}};
+/* Stock 0 as it was set up, and stock 1 at the end. */
+static const uint64_t RECORDS[][LENGTH(RECORD)] = {
+    {1, 1, 6, 31000, 3700000, 0, 0, 1},
+    {2, 3, 9, 115000, 3700000, 4, 3150003, 1, 3090002, 3105002, 4848000031, 8, 3050008, 0,
+     969599985, 969599986, 969599987, 969599988, 969599989, 969599990, 969599991, 969599992,
+     969599993, 969599994, 969599995, 969599996, 969599997, 969599998, 969599999, 969600000,
+     969600001, 969600002, 969600003, 969600004, 969600005, 969600006, 969600007, 969600008,
+     969600009, 969600010, 969600011, 969600012, 969600013, 969600014, 969600015, 969600016,
+     LENGTH(PRICES)}};
+
+/* Reading in Trading, and a trade outside the bands in Limit. The reference of 606,000,003.875 is rounded. */
+static const uint64_t ANSWERS[][LENGTH(ANSWER)] = {
+    {0, 1, 606000004, 242400000, 969600000, 969599999, 1, 969600001, 2},
+    {12, 2, 606000004, 242400000, 969600000, 969600000, 3, 969600001, 2}};
 
 /* A settling with nothing due, and the pause. */
-static const uint32_t NOTICES[][LENGTH(NOTICE)] = {
-    {14, 1, 100000, 40000, 160000, 159999, 1, 160001, 2, 0, 0},
-    {0, 4, 100000, 0, 0, 160000, 1, 160001, 1, 0x78, 3105002}};
+static const uint64_t NOTICES[][LENGTH(NOTICE)] = {
+    {14, 1, 606000004, 242400000, 969600000, 969599999, 1, 969600001, 2, 0, 0},
+    {0, 4, 606000004, 0, 0, 969600000, 1, 969600001, 1, 0x78, 3105002}};
 
 /* The next moment in Trading: the first trade leaves. */
-static const uint32_t NEXT[LENGTH(UPCOMING)] = {0, 0x76, 3380001};
+static const uint64_t NEXT[LENGTH(UPCOMING)] = {0, 0x76, 3350001};
 
 /* Any call on a book that is not set up. */
-static const uint32_t RUBBISH[LENGTH(NOTICE)] = {1};
+static const uint64_t RUBBISH[LENGTH(NOTICE)] = {1};
 
 /* ---------------------------------------------------------------- the memory that the library gets */
 
-/* With an odd guard length the records are at an address with no more alignment than they need. */
+/* With these guard lengths each array is at an address with no more alignment than it needs. */
 enum {
     STOCKS = 2,
+    AHEAD = 34,
     GUARD = 33,
     NUMBERS = STOCKS * sizeof(struct sumpheron_record) / sizeof(uint32_t),
     PLACES = STOCKS * SUMPHERON_PLACES,
-    HELD = 5,
+    HELD = LENGTH(PRICES),
     /* the moments between the opening and the first trade: h, v, w, w */
     DUE = 4,
     ROOM = 256
@@ -99,31 +115,38 @@ enum {
 static const uint32_t PATTERN = 0xa5a5a5a5;
 
 static struct memory {
-    uint32_t records[GUARD + NUMBERS + GUARD];
-    uint32_t times[GUARD + PLACES + GUARD];
-    uint32_t prices[GUARD + PLACES + GUARD];
+    alignas(16) uint32_t records[AHEAD + NUMBERS + AHEAD];
+    alignas(16) uint32_t times[GUARD + PLACES + GUARD];
+    alignas(16) uint32_t prices[GUARD + PLACES + GUARD];
 } memory, before;
 
 /* Where an answer is written. */
 static uint32_t room[ROOM / sizeof(uint32_t)];
 
-#define BOOK SUMPHERON_BOOK((struct sumpheron_record *)(memory.records + GUARD), STOCKS, memory.times + GUARD, memory.prices + GUARD)
+#define RECORDS_LENT ((struct sumpheron_record *)(void *)(memory.records + AHEAD))
+#define BOOK SUMPHERON_BOOK(RECORDS_LENT, STOCKS, memory.times + GUARD, memory.prices + GUARD)
 
 /* ---------------------------------------------------------------- checks */
 
-static uint32_t number_at(const unsigned char *bytes)
+/* A number of 4 or 8 bytes, all of which count. */
+static uint64_t number_at(const unsigned char *bytes, size_t size)
 {
-    uint32_t number;
-    memcpy(&number, bytes, sizeof number);
-    return number;
+    uint32_t narrow;
+    uint64_t wide;
+    if (size == sizeof wide) {
+        memcpy(&wide, bytes, sizeof wide);
+        return wide;
+    }
+    memcpy(&narrow, bytes, sizeof narrow);
+    return narrow;
 }
 
-/* How often a number occurs in a struct that the library wrote, and the byte of its last occurrence. */
-static size_t count_number(uint32_t number, const unsigned char *bytes, size_t size, size_t *last)
+/* How often a number of this width occurs in a struct that the library wrote, and the byte of its last occurrence. */
+static size_t count_number(uint64_t number, size_t width, const unsigned char *bytes, size_t size, size_t *last)
 {
     size_t count = 0;
-    for (size_t at = 0; at + sizeof number <= size; at += sizeof number) {
-        if (number_at(bytes + at) == number) {
+    for (size_t at = 0; at + width <= size; at += sizeof(uint32_t)) {
+        if (number_at(bytes + at, width) == number) {
             count++;
             *last = at;
         }
@@ -132,26 +155,28 @@ static size_t count_number(uint32_t number, const unsigned char *bytes, size_t s
 }
 
 /* Checks that each field has its value in a struct that the library wrote. */
-static void check_fields(const struct field *fields, size_t count, const uint32_t *values, const void *written, size_t size)
+static void check_fields(const struct field *fields, size_t count, const uint64_t *values, const void *written, size_t size)
 {
     const unsigned char *bytes = (const unsigned char *)written;
     for (size_t i = 0; i < count; i++) {
         struct field f = fields[i];
         size_t at;
-        if (number_at(bytes + f.offset) == values[i])
+        if (number_at(bytes + f.offset, f.size) == values[i])
             continue;
-        FAULT("%s is at byte %zu of the header, where the library has not %" PRIu32, f.name, f.offset, values[i]);
-        if (count_number(values[i], bytes, size, &at) == 1)
+        FAULT("%s is at byte %zu of the header, where the library has not %" PRIu64 " in %zu bytes", f.name, f.offset, values[i], f.size);
+        if (count_number(values[i], f.size, bytes, size, &at) == 1)
             printf("        it has that at byte %zu\n", at);
     }
 }
 
-/* Checks that the fields cover every byte of the struct, and that any two fields differ in some row of values. */
-static void check_table(const struct field *fields, size_t count, const uint32_t *values, size_t rows, size_t size)
+/* Checks that the fields have 4 or 8 bytes and cover every byte of the struct, and that any two fields differ in some row of values. */
+static void check_table(const struct field *fields, size_t count, const uint64_t *values, size_t rows, size_t size)
 {
     size_t sum = 0;
     for (size_t i = 0; i < count; i++) {
         sum += fields[i].size;
+        if (fields[i].size != sizeof(uint32_t) && fields[i].size != sizeof(uint64_t))
+            FAULT("%s has %zu bytes", fields[i].name, fields[i].size);
         for (size_t j = 0; j < i; j++) {
             size_t row = 0;
             while (row < rows && values[row * count + i] == values[row * count + j])
@@ -165,23 +190,35 @@ static void check_table(const struct field *fields, size_t count, const uint32_t
 }
 
 /* Checks that the guards are unchanged and that everything between them was written. */
-static void check_guards(const char *name, const uint32_t *numbers, size_t length)
+static void check_guards(const char *name, const char *when, const uint32_t *numbers, size_t guard, size_t length)
 {
-    for (size_t i = 0; i < GUARD + length + GUARD; i++) {
-        int inside = i >= GUARD && i < GUARD + length;
+    for (size_t i = 0; i < guard + length + guard; i++) {
+        int inside = i >= guard && i < guard + length;
         if (inside == (numbers[i] == PATTERN))
-            FAULT("%s: number %ld of %zu is %s", name, (long)i - GUARD, length, inside ? "not written" : "written");
+            FAULT("%s %s: number %ld of %zu is %s", name, when, (long)i - (long)guard, length, inside ? "not written" : "written");
     }
 }
 
+static void check_all_guards(const char *when)
+{
+    check_guards("records", when, memory.records, AHEAD, NUMBERS);
+    check_guards("times", when, memory.times, GUARD, PLACES);
+    check_guards("prices", when, memory.prices, GUARD, PLACES);
+}
+
+static void check_place(const char *name, uint32_t place, uint32_t given, uint32_t wanted)
+{
+    if (given != wanted)
+        FAULT("%s: place %" PRIu32 " is %" PRIu32 " and not %" PRIu32, name, place, given, wanted);
+}
+
 /* Checks that stock 1 has its trades at the front of its places, and that all other places are 0. */
-static void check_places(const char *name, const uint32_t *places, uint32_t first)
+static void check_places(void)
 {
     for (uint32_t i = 0; i < PLACES; i++) {
         uint32_t held = i - SUMPHERON_PLACES;
-        uint32_t wanted = held < HELD ? first + held : 0;
-        if (places[i] != wanted)
-            FAULT("%s: place %" PRIu32 " is %" PRIu32 " and not %" PRIu32, name, i, places[i], wanted);
+        check_place("times", i, memory.times[GUARD + i], held < HELD ? 3050001 + held : 0);
+        check_place("prices", i, memory.prices[GUARD + i], held < HELD ? PRICES[held] : 0);
     }
 }
 
@@ -211,7 +248,7 @@ void write_settle(void *notice, struct sumpheron_record *book, size_t stocks, ui
 #endif
 
 static void read_1(void) { WRITE(answer, read, BOOK, 1); }
-static void trade_outside(void) { WRITE(answer, trade, BOOK, 1, 3090003, 160001); }
+static void trade_outside(void) { WRITE(answer, trade, BOOK, 1, 3090003, 969600001); }
 static void settle_nothing(void) { WRITE(notice, settle, BOOK, 1, 3080200); }
 static void settle_pause(void) { WRITE(notice, settle, BOOK, 1, 3110000); }
 
@@ -223,7 +260,7 @@ static void next_1(void)
 }
 
 /* Makes the call twice, with the room filled differently: a byte that keeps its filling both times was not written. */
-static void check_call(void (*call)(void), const struct field *fields, size_t count, const uint32_t *values, size_t size)
+static void check_call(void (*call)(void), const struct field *fields, size_t count, const uint64_t *values, size_t size)
 {
     static const unsigned char FILLS[] = {0xa5, 0x5a};
     const unsigned char *bytes = (const unsigned char *)room;
@@ -262,24 +299,23 @@ static void set_up(void)
 {
     const uint32_t setups[STOCKS * SUMPHERON_SETUP_NUMBERS] = {1, 1, 6, 31000, 2, 3, 9, 115000};
     expect_done("setup", sumpheron_setup(BOOK, 3700000, setups, LENGTH(setups)));
-    check_guards("records after setup", memory.records, NUMBERS);
-    check_guards("times after setup", memory.times, PLACES);
-    check_guards("prices after setup", memory.prices, PLACES);
+    check_all_guards("after setup");
 }
 
 static void quote(uint32_t time, uint32_t participant)
 {
-    expect_done("quote", sumpheron_quote(BOOK, 1, time, participant, 159985 + participant, 160001 + participant));
+    expect_done("quote", sumpheron_quote(BOOK, 1, time, participant, 969599985 + participant, 969600001 + participant));
 }
 
 /* Stock 1 opens and trades, all participants quote it, and it goes through a limit state into a late pause. */
 static void play(void)
 {
-    expect_done("opening", sumpheron_opening(BOOK, 1, 1001, 9, 100000));
+    expect_done("opening", sumpheron_opening(BOOK, 1, 1001, 9, 600000000));
     for (int moment = 0; moment < DUE; moment++)
-        expect_done("settling", sumpheron_settle(BOOK, 1, 3080000).answer);
+        expect_done("settling", sumpheron_settle(BOOK, 1, 3050000).answer);
     for (uint32_t i = 0; i < HELD; i++)
-        expect_done("trade", sumpheron_trade(BOOK, 1, 3080001 + i, 100001 + i));
+        expect_done("trade", sumpheron_trade(BOOK, 1, 3050001 + i, PRICES[i]));
+    expect_done("the end of the hold", sumpheron_settle(BOOK, 1, 3080099).answer);
     for (uint32_t i = 0; i < SUMPHERON_PARTICIPANTS - 1; i++)
         quote(3080100 + i, i);
     check_call(read_1, ANSWER, LENGTH(ANSWER), ANSWERS[0], sizeof(struct sumpheron_answer));
@@ -293,15 +329,12 @@ static void play(void)
 
 static void check_records(void)
 {
-    const unsigned char *bytes = (const unsigned char *)(memory.records + GUARD);
+    const unsigned char *bytes = (const unsigned char *)(memory.records + AHEAD);
     const size_t size = sizeof(struct sumpheron_record);
     for (size_t stock = 0; stock < STOCKS; stock++)
         check_fields(RECORD, LENGTH(RECORD), RECORDS[stock], bytes + stock * size, size);
-    check_guards("records", memory.records, NUMBERS);
-    check_guards("times", memory.times, PLACES);
-    check_guards("prices", memory.prices, PLACES);
-    check_places("times", memory.times + GUARD, 3080001);
-    check_places("prices", memory.prices + GUARD, 100001);
+    check_all_guards("at the end");
+    check_places();
 }
 
 int main(void)
@@ -310,6 +343,8 @@ int main(void)
     check_table(ANSWER, LENGTH(ANSWER), ANSWERS[0], LENGTH(ANSWERS), sizeof(struct sumpheron_answer));
     check_table(NOTICE, LENGTH(NOTICE), NOTICES[0], LENGTH(NOTICES), sizeof(struct sumpheron_notice));
     check_table(UPCOMING, LENGTH(UPCOMING), NEXT, 1, sizeof(struct sumpheron_upcoming));
+    if ((uintptr_t)(memory.records + AHEAD) % 16 != 8 || (uintptr_t)(memory.times + GUARD) % 8 != 4)
+        FAULT("the arrays have more alignment than they need, or less");
     memset(&memory, PATTERN & 0xff, sizeof memory);
     check_sizes();
     if (faults == 0) {

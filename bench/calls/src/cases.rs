@@ -141,6 +141,26 @@ fn nothing_due(held: u32) -> Case {
     }
 }
 
+/// The reference is the mean of two trades that have left.
+fn nothing_due_mean() -> Case {
+    let mut script = book(1, 0);
+    script.tell(message(Letter::T, 0, NOON, PRICE + 900));
+    script.tell(message(Letter::T, 0, NOON, PRICE + 1_301));
+    script.settle_and_tell(next_quote(0, 0, NOON + 300_000));
+    let before = script.cut();
+    for _ in 0..STRETCH {
+        script.settle(0, NOON + 300_000);
+    }
+    Case {
+        has_floor: false,
+        ..case(
+            "settle, nothing due, 0 held, the reference a mean",
+            before,
+            script,
+        )
+    }
+}
+
 fn reads(held: u32) -> Case {
     let mut script = book(1, held);
     let before = script.cut();
@@ -224,7 +244,7 @@ fn setup_of_all() -> Case {
 }
 
 /// How each case is made, in the order of the table.
-pub const ALL: [fn() -> Case; 12] = [
+pub const ALL: [fn() -> Case; 13] = [
     || quotes(1, 0),
     || quotes(1, 64),
     || quotes(1, 512),
@@ -232,6 +252,7 @@ pub const ALL: [fn() -> Case; 12] = [
     limits,
     || trades(480),
     || nothing_due(0),
+    nothing_due_mean,
     || nothing_due(512),
     leavings,
     || reads(512),

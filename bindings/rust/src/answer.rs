@@ -9,7 +9,8 @@ use std::{error, fmt};
 pub struct Answer {
     /// The stock's state.
     pub state: State,
-    /// The reference price, if there is one.
+    /// The reference price, if there is one, rounded to a whole number; a half goes up. The bands are worked out from the exact one,
+    /// whose sum and count the stock's record has (`raw::Record`).
     pub reference: Option<u32>,
     /// The bands in force; there are none outside `Trading` and `Limit`.
     pub bands: Option<Bands>,

@@ -58,7 +58,7 @@ pub use book::{Book, Setup};
 pub use numbers::{Flag, Mark, Number, State};
 
 /// The library version that these bindings are for: SUMPHERON_VERSION of the header.
-pub const VERSION: u32 = 3;
+pub const VERSION: u32 = 4;
 /// A book has at most this many stocks.
 pub const MOST_STOCKS: usize = 64;
 /// Each stock owns this many places of the trade times and of the trade prices: those of stock i begin at `PLACES * i`.

@@ -8,7 +8,7 @@
 
 use crate::PARTICIPANTS;
 
-/// A stock's record: docs/RECORD.md says what each field holds.
+/// A stock's record: docs/RECORD.md says what each field holds. It has 200 bytes, no padding, and is aligned to 8.
 #[non_exhaustive]
 #[repr(C)]
 #[derive(Clone, Copy, Debug, Default, PartialEq, Eq)]
@@ -33,8 +33,11 @@ pub struct Record {
     pub limit_entry: u32,
     /// When a pause last started.
     pub pause_start: u32,
-    /// The reference price, 0 for none.
-    pub reference: u32,
+    /// The sum of the prices whose mean is the reference price, 0 for none. The reference is this sum divided by `reference_count`, and
+    /// not rounded.
+    pub reference_sum: u64,
+    /// How many prices the sum is of, 0 for none.
+    pub reference_count: u64,
     /// Since when it has been the reference.
     pub reference_start: u32,
     /// Not 0: the moment h of this start has not happened.
@@ -44,7 +47,7 @@ pub struct Record {
     /// The offer of each participant, 0 for none.
     pub offers: [u32; PARTICIPANTS],
     /// How many trades are held.
-    pub trades: u32,
+    pub trades: u64,
 }
 
 /// What a call returns.
@@ -56,7 +59,7 @@ pub struct Answer {
     pub number: u32,
     /// The number of [`State`](crate::State).
     pub state: u32,
-    /// The reference price, 0 for none.
+    /// The reference price, rounded to a whole number (a half goes up), 0 for none.
     pub reference: u32,
     /// The lower band in force, 0 for none.
     pub lower: u32,

@@ -273,6 +273,37 @@ fn rubbish_is_answered() {
     assert_eq!(number(nothing.read(0)), Number::Rubbish);
 }
 
+/// The record has the reference exactly, as a sum and a count; the answer has it rounded.
+#[test]
+fn a_record_has_the_sum_and_the_count_of_the_reference() {
+    let mut book = book();
+    for price in [115_000, 115_001, 115_000, 115_001] {
+        book.trade(0, 1_000, price).unwrap();
+    }
+    let first = book.settle(0, 300_000).unwrap();
+    assert_eq!(
+        (first.mark, first.answer.reference),
+        (Mark::F, Some(115_001))
+    );
+    let record = book.records()[0];
+    assert_eq!((record.reference_sum, record.reference_count), (460_002, 4));
+    assert_eq!(record.trades, 4);
+
+    let (records, times, prices) = book.into_parts();
+    for (sum, count) in [
+        (460_002, 513),
+        (3, 4),
+        (1 << 32, 4),
+        (460_002, 4 + (1 << 32)),
+    ] {
+        let mut records = records.clone();
+        records[0].reference_sum = sum;
+        records[0].reference_count = count;
+        let book = Book::from_parts(records, times.clone(), prices.clone()).unwrap();
+        assert_eq!(number(book.read(0)), Number::Rubbish, "{sum} {count}");
+    }
+}
+
 #[test]
 fn what_comes_next_is_what_settling_does() {
     let mut book = trading();

@@ -1,7 +1,7 @@
 //! Compares the structs of `raw` with the library's. It plays a day that gives every field a known value, and then checks the memory that
 //! the library wrote: each value is where `raw` has its field, and the library wrote nothing before or behind the arrays.
 
-use std::mem::{size_of, size_of_val};
+use std::mem::{align_of, size_of, size_of_val};
 use std::ptr::addr_of;
 use sumpheron::{raw, Number, PARTICIPANTS, PLACES};
 
@@ -24,7 +24,7 @@ macro_rules! fields {
     }};
 }
 
-/// The numbers of a field: one, or those of an array.
+/// The numbers of a field: one of 4 or 8 bytes, or those of an array.
 fn numbers(field: Field) -> Vec<Field> {
     let number = |i| Field {
         name: format!("{}[{i}]", field.name),
@@ -32,7 +32,7 @@ fn numbers(field: Field) -> Vec<Field> {
         size: 4,
     };
     match field.size {
-        4 => vec![field],
+        4 | 8 => vec![field],
         size => (0..size / 4).map(number).collect(),
     }
 }
@@ -40,7 +40,7 @@ fn numbers(field: Field) -> Vec<Field> {
 fn record() -> Vec<Field> {
     let fields = fields!(Record:
         tier, leverage, primary, close, session_end, state, clock, f_to_come, limit_entry, pause_start,
-        reference, reference_start, h_to_come, bids, offers, trades);
+        reference_sum, reference_count, reference_start, h_to_come, bids, offers, trades);
     fields.into_iter().flat_map(numbers).collect()
 }
 
@@ -71,78 +71,149 @@ macro_rules! no_padding {
 
 no_padding!(Record:
     tier, leverage, primary, close, session_end, state, clock, f_to_come, limit_entry, pause_start,
-    reference, reference_start, h_to_come, bids, offers, trades);
+    reference_sum, reference_count, reference_start, h_to_come, bids, offers, trades);
 no_padding!(Answer: number, state, reference, lower, upper, bid, bid_flag, offer, offer_flag);
 no_padding!(Notice: answer, mark, time);
 no_padding!(Upcoming: number, mark, time);
 
+/// The sizes and the alignments that docs/RECORD.md says.
+const _: () = assert!(RECORD == 200 && align_of::<raw::Record>() == 8);
+const _: () = assert!(size_of::<raw::Answer>() == 36 && align_of::<raw::Answer>() == 4);
+const _: () = assert!(size_of::<raw::Notice>() == 44 && align_of::<raw::Notice>() == 4);
+const _: () = assert!(size_of::<raw::Upcoming>() == 12 && align_of::<raw::Upcoming>() == 4);
+
 // ---------------------------------------------------------------- the values that the day must give
 
+/// The trades of stock 1. The eighth moves the reference from 600,000,000 to the mean of all eight: their sum needs more than 32 bits,
+/// and their count does not divide it.
+const PRICES: [u32; 10] = [
+    600_000_001,
+    600_000_002,
+    600_000_003,
+    600_000_004,
+    600_000_005,
+    600_000_006,
+    600_000_007,
+    648_000_003,
+    606_000_001,
+    606_000_002,
+];
+
+/// The upper band of that mean, 606,000,003.875, which answers have rounded.
+const UPPER: u32 = 969_600_000;
+
 /// Stock 0 as it was set up, and stock 1 at the end.
-fn records() -> [Vec<u32>; 2] {
+fn records() -> [Vec<u64>; 2] {
     let mut first = vec![1, 1, 6, 31_000, 3_700_000, 0, 0, 1];
     first.resize(record().len(), 0);
     let mut second = vec![2, 3, 9, 115_000, 3_700_000, 4, 3_150_003, 1];
-    second.extend([3_090_002, 3_105_002, 100_000, 1_001, 0]);
-    second.extend(159_985..=160_016);
-    second.push(HELD);
+    second.extend([3_090_002, 3_105_002, 4_848_000_031, 8, 3_050_008, 0]);
+    second.extend(969_599_985..=969_600_016);
+    second.push(PRICES.len() as u64);
     [first, second]
 }
 
 /// Reading in Trading, and a trade outside the bands in Limit.
-const ANSWERS: [[u32; 9]; 2] = [
-    [0, 1, 100_000, 40_000, 160_000, 159_999, 1, 160_001, 2],
-    [12, 2, 100_000, 40_000, 160_000, 160_000, 3, 160_001, 2],
+const ANSWERS: [[u64; 9]; 2] = [
+    [
+        0,
+        1,
+        606_000_004,
+        242_400_000,
+        969_600_000,
+        969_599_999,
+        1,
+        969_600_001,
+        2,
+    ],
+    [
+        12,
+        2,
+        606_000_004,
+        242_400_000,
+        969_600_000,
+        969_600_000,
+        3,
+        969_600_001,
+        2,
+    ],
 ];
 
 /// A settling with nothing due, and the pause.
-const NOTICES: [[u32; 11]; 2] = [
+const NOTICES: [[u64; 11]; 2] = [
     [
-        14, 1, 100_000, 40_000, 160_000, 159_999, 1, 160_001, 2, 0, 0,
+        14,
+        1,
+        606_000_004,
+        242_400_000,
+        969_600_000,
+        969_599_999,
+        1,
+        969_600_001,
+        2,
+        0,
+        0,
     ],
-    [0, 4, 100_000, 0, 0, 160_000, 1, 160_001, 1, 0x78, 3_105_002],
+    [
+        0,
+        4,
+        606_000_004,
+        0,
+        0,
+        969_600_000,
+        1,
+        969_600_001,
+        1,
+        0x78,
+        3_105_002,
+    ],
 ];
 
 /// The next moment in Trading: the first trade leaves.
-const UPCOMING: [u32; 3] = [0, 0x76, 3_380_001];
+const UPCOMING: [u64; 3] = [0, 0x76, 3_350_001];
 
 /// Any call on a book that is not set up.
-const RUBBISH: [u32; 11] = [1, 0, 0, 0, 0, 0, 0, 0, 0, 0, 0];
+const RUBBISH: [u64; 11] = [1, 0, 0, 0, 0, 0, 0, 0, 0, 0, 0];
 
 // ---------------------------------------------------------------- the memory that the library gets
 
-/// With an odd guard length the records are at an address with no more alignment than they need.
+/// With these guard lengths the records, and the other arrays, are at an address with no more alignment than they need.
+const AHEAD: usize = 34;
 const GUARD: usize = 33;
 const PATTERN: u32 = 0xa5a5_a5a5;
 const STOCKS: usize = 2;
 const RECORD: usize = size_of::<raw::Record>();
-const HELD: u32 = 5;
 /// The moments between the opening and the first trade: h, v, w, w.
 const DUE: usize = 4;
+
+/// An array of numbers at an address that 16 divides.
+#[derive(Clone)]
+#[repr(align(16))]
+struct Aligned<const N: usize>([u32; N]);
 
 /// The three arrays, with guards before and behind each.
 #[derive(Clone)]
 struct Memory {
-    records: Vec<u32>,
-    times: Vec<u32>,
-    prices: Vec<u32>,
+    records: Box<Aligned<{ AHEAD + STOCKS * RECORD / 4 + AHEAD }>>,
+    times: Box<Aligned<{ GUARD + STOCKS * PLACES + GUARD }>>,
+    prices: Box<Aligned<{ GUARD + STOCKS * PLACES + GUARD }>>,
 }
 
 impl Memory {
     fn new() -> Memory {
-        let array = |length| vec![PATTERN; GUARD + length + GUARD];
         Memory {
-            records: array(STOCKS * RECORD / 4),
-            times: array(STOCKS * PLACES),
-            prices: array(STOCKS * PLACES),
+            records: Box::new(Aligned([PATTERN; AHEAD + STOCKS * RECORD / 4 + AHEAD])),
+            times: Box::new(Aligned([PATTERN; GUARD + STOCKS * PLACES + GUARD])),
+            prices: Box::new(Aligned([PATTERN; GUARD + STOCKS * PLACES + GUARD])),
         }
     }
 
-    fn arrays(&self) -> [(&'static str, &[u32]); 3] {
+    /// Each array with its name and the length of its guards.
+    fn arrays(&self) -> [(&'static str, usize, &[u32]); 3] {
         [
-            ("records", &self.records),
-            ("times", &self.times),
-            ("prices", &self.prices),
+            ("records", AHEAD, &self.records.0),
+            ("times", GUARD, &self.times.0),
+            ("prices", GUARD, &self.prices.0),
         ]
     }
 }
@@ -154,13 +225,13 @@ type Room = [u32; 64];
 macro_rules! lend {
     ($function:path, [$($room:ident)?], $memory:expr $(, $argument:expr)*) => {{
         let Memory { records, times, prices } = $memory;
-        // SAFETY: each array lies between its guards, in its own vector, which only this call borrows.
+        // SAFETY: each array lies aligned between its guards, in its own memory, which only this call borrows.
         unsafe {
             $function(
                 $($room,)?
-                records[GUARD..].as_mut_ptr().cast(), STOCKS,
-                times[GUARD..].as_mut_ptr(), STOCKS * PLACES,
-                prices[GUARD..].as_mut_ptr(), STOCKS * PLACES
+                records.0[AHEAD..].as_mut_ptr().cast(), STOCKS,
+                times.0[GUARD..].as_mut_ptr(), STOCKS * PLACES,
+                prices.0[GUARD..].as_mut_ptr(), STOCKS * PLACES
                 $(, $argument)*
             )
         }
@@ -230,8 +301,12 @@ macro_rules! answer_into {
 
 // ---------------------------------------------------------------- checks
 
-fn number(bytes: &[u8]) -> u32 {
-    u32::from_ne_bytes(bytes[..4].try_into().unwrap())
+/// A number of 4 or 8 bytes, all of which count.
+fn number(bytes: &[u8], size: usize) -> u64 {
+    match size {
+        8 => u64::from_ne_bytes(bytes[..8].try_into().unwrap()),
+        _ => u32::from_ne_bytes(bytes[..4].try_into().unwrap()).into(),
+    }
 }
 
 fn bytes_of(words: &[u32]) -> Vec<u8> {
@@ -239,24 +314,26 @@ fn bytes_of(words: &[u32]) -> Vec<u8> {
 }
 
 /// Checks that each field has its value in a struct that the library wrote.
-fn check_fields(fields: &[Field], values: &[u32], written: &[u8]) -> Vec<String> {
+fn check_fields(fields: &[Field], values: &[u64], written: &[u8]) -> Vec<String> {
     let mut faults = Vec::new();
     for (field, &value) in fields.iter().zip(values) {
-        let Field { name, offset, .. } = field;
-        if number(&written[*offset..]) != value {
-            let has = |at: &usize| number(&written[*at..]) == value;
-            let places: Vec<usize> = (0..written.len()).step_by(4).filter(has).collect();
+        let Field { name, offset, size } = field;
+        if number(&written[*offset..], *size) != value {
+            let has = |at: &usize| number(&written[*at..], *size) == value;
+            let starts = (0..=written.len() - size).step_by(4);
+            let places: Vec<usize> = starts.filter(has).collect();
             faults.push(format!(
-                "{name} is at byte {offset} of raw, and the library has {value} at {places:?}"
+                "{name} is at byte {offset} of raw, and the library has {value} in {size} bytes at {places:?}"
             ));
         }
     }
     faults
 }
 
-/// Checks that the fields cover every byte of the struct, and that any two fields differ in some row of values.
-fn check_table(fields: &[Field], rows: &[&[u32]], size: usize) {
+/// Checks that the fields have 4 or 8 bytes and cover every byte of the struct, and that any two fields differ in some row of values.
+fn check_table(fields: &[Field], rows: &[&[u64]], size: usize) {
     let sum: usize = fields.iter().map(|field| field.size).sum();
+    assert!(fields.iter().all(|field| matches!(field.size, 4 | 8)));
     assert_eq!(sum, size, "bytes of the fields from {} on", fields[0].name);
     for (i, field) in fields.iter().enumerate() {
         for (j, other) in fields[..i].iter().enumerate() {
@@ -270,7 +347,7 @@ fn check_table(fields: &[Field], rows: &[&[u32]], size: usize) {
 fn check_call(
     memory: &mut Memory,
     fields: &[Field],
-    values: &[u32],
+    values: &[u64],
     size: usize,
     call: fn(&mut Memory, &mut Room),
 ) {
@@ -299,13 +376,13 @@ fn check_call(
 
 /// Checks that the guards are unchanged and that everything between them was written.
 fn check_guards(memory: &Memory) {
-    for (name, array) in memory.arrays() {
+    for (name, guard, array) in memory.arrays() {
         for (i, &word) in array.iter().enumerate() {
-            let inside = (GUARD..array.len() - GUARD).contains(&i);
+            let inside = (guard..array.len() - guard).contains(&i);
             assert_eq!(
                 inside,
                 word != PATTERN,
-                "{name}: number {i}, {GUARD} of guard counted"
+                "{name}: number {i}, {guard} of guard counted"
             );
         }
     }
@@ -322,7 +399,7 @@ fn read(memory: &mut Memory, room: &mut Room) {
 }
 
 fn trade_outside(memory: &mut Memory, room: &mut Room) {
-    answer_into!(sumpheron_trade, room, memory, 1, 3_090_003, 160_001)
+    answer_into!(sumpheron_trade, room, memory, 1, 3_090_003, UPPER + 1)
 }
 
 fn settle_nothing(memory: &mut Memory, room: &mut Room) {
@@ -361,8 +438,8 @@ fn quote(memory: &mut Memory, time: u32, who: u32) {
         1,
         time,
         who,
-        159_985 + who,
-        160_001 + who
+        UPPER - 15 + who,
+        UPPER + 1 + who
     ));
 }
 
@@ -375,28 +452,23 @@ fn play_trading(memory: &mut Memory) {
         1,
         1_001,
         9,
-        100_000
+        600_000_000
     ));
     for _ in 0..DUE {
-        expect_done(lend!(raw::sumpheron_settle, [], memory, 1, 3_080_000).answer);
+        expect_done(lend!(raw::sumpheron_settle, [], memory, 1, 3_050_000).answer);
     }
-    for i in 0..HELD {
-        expect_done(lend!(
-            raw::sumpheron_trade,
-            [],
-            memory,
-            1,
-            3_080_001 + i,
-            100_001 + i
-        ));
+    for (time, price) in (3_050_001..).zip(PRICES) {
+        expect_done(lend!(raw::sumpheron_trade, [], memory, 1, time, price));
     }
+    // The hold of the new reference ends.
+    expect_done(lend!(raw::sumpheron_settle, [], memory, 1, 3_080_099).answer);
     for i in 0..PARTICIPANTS as u32 - 1 {
         quote(memory, 3_080_100 + i, i);
     }
 }
 
 fn check_records(memory: &Memory) {
-    let bytes = bytes_of(&memory.records[GUARD..]);
+    let bytes = bytes_of(&memory.records.0[AHEAD..]);
     for (stock, values) in records().iter().enumerate() {
         let faults = check_fields(&record(), values, &bytes[stock * RECORD..][..RECORD]);
         assert!(faults.is_empty(), "stock {stock}: {faults:#?}");
@@ -405,12 +477,11 @@ fn check_records(memory: &Memory) {
 
 /// Checks that stock 1 has its trades at the front of its places, and that all other places are 0.
 fn check_places(memory: &Memory) {
-    for (array, first) in [(&memory.times, 3_080_001), (&memory.prices, 100_001)] {
+    let times: [u32; PRICES.len()] = std::array::from_fn(|i| 3_050_001 + i as u32);
+    for (array, held) in [(&memory.times, times), (&memory.prices, PRICES)] {
         let mut wanted = vec![0; STOCKS * PLACES];
-        for i in 0..HELD {
-            wanted[PLACES + i as usize] = first + i;
-        }
-        assert_eq!(array[GUARD..GUARD + STOCKS * PLACES], wanted);
+        wanted[PLACES..][..held.len()].copy_from_slice(&held);
+        assert_eq!(array.0[GUARD..GUARD + STOCKS * PLACES], wanted);
     }
 }
 

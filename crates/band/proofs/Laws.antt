@@ -7,14 +7,14 @@ use mathlib.Core.Path.{_≡_, refl, ap}
 use native.Mathlib.Nat.{mul-le-mul, mul-le-mul-right, le-of-mul-le-mul-right, mul-left-comm, mul-suc, add-mul, div-mul-le-self, le-div-iff-mul-le, div-lt-iff-lt-mul, div-zero, le-trans}
 use native.Mathlib.Decide.{ℕ-discrete}
 use native.Mathlib.Omega.{arith}
-use borrow.Author.Tests.{ltb-true, ltb-false, eqb-true, eq-eqb, ne-eqb}
+use borrow.Author.Tests.{ltb-true, ltb-false, eqb-true, eqb-false, eq-eqb, ne-eqb}
 use lib.Dec.{ltb, eqb}
 use lib.ListN.{length}
 use Rattle.forms.proofs.Choice.{if-true, if-false, if-arms}
 use Rattle.forms.proofs.Promises.{agree}
-use Rattle.band.specs.Band.{small, percentOf, factorOf, spreadOf, cent, lowerOf, upperOf, minusOf, bandsOf, meanOf, movesOf}
-use Rattle.band.specs.Laws.{Within, Around, Ordered, UpperFits, MeanBetween, Laws}
-use Rattle.band.proofs.Words.{cent-nearest, percent-is, factor-is, spread-is, cent-is, bands-are, mean-is, moves-is, bands-scaled, moves-scaled}
+use Rattle.band.specs.Band.{small, percentOf, factorOf, spreadOf, cent, lowerOf, upperOf, minusOf, bandsBy, fits, printedOf, printedBy, distance, movesBy}
+use Rattle.band.specs.Laws.{Within, Around, Ordered, WholeCents, UpperNotZero, UpperFits, MeanBetween, PrintedNear, PrintedBetween, Laws}
+use Rattle.band.proofs.Words.{cent-nearest, printed-given, percent-is, factor-is, fits-is, spread-is, cent-is, bands-are, printed-is, moves-is, bands-scaled, moves-scaled}
 use Rattle.band.proofs.Examples.{examples}
 
 -- ------------------------------------------------------------------ percent and factor
@@ -51,12 +51,21 @@ nearest x d h =
     let by = ap (λ price. price * d) (near .1) in
     (omega arith, omega arith)
 
-cent-mono : (x y d : ℕ) → 1 ≤ d → x ≤ y → cent x d ≤ cent y d
+-- without a price nothing is divided, so there is nothing to round
+pub cent-of-none : (x d : ℕ) → d ≡ 0 → cent x d ≡ 0
 unfolding cent
-cent-mono x y d h i =
-    let q : (x + 5_000 * d) / (10_000 * d) ≤ (y + 5_000 * d) / (10_000 * d) =
-    le-div-iff-mul-le {k = 10_000 * d} (omega arith) .1 (le-trans (div-mul-le-self (x + 5_000 * d) (10_000 * d)) (omega arith)) in
-    omega arith
+cent-of-none x d z = rw (z, div-zero)
+
+cent-mono : (x y d : ℕ) → x ≤ y → cent x d ≤ cent y d
+unfolding cent
+cent-mono x y d i = go (ℕ-discrete d 0)
+  where
+    go : Dec (d ≡ 0) → cent x d ≤ cent y d
+    go (yes z) = rw (cent-of-none x d z) (omega arith)
+    go (no z) =
+        let q : (x + 5_000 * d) / (10_000 * d) ≤ (y + 5_000 * d) / (10_000 * d) =
+        le-div-iff-mul-le {k = 10_000 * d} (omega arith) .1 (le-trans (div-mul-le-self (x + 5_000 * d) (10_000 * d)) (omega arith)) in
+        omega arith
 
 -- ------------------------------------------------------------------ A, and the bands
 
@@ -103,29 +112,56 @@ around n d tier close leverage time end h i l m =
 
 pub ordered : Ordered
 unfolding lowerOf
-ordered n d p k h =
-    le-trans (cent-mono (100 * n - spreadOf n d p k) (100 * n + spreadOf n d p k) d h (omega arith)) (upper-above n d p k)
+ordered n d p k =
+    le-trans (cent-mono (100 * n - spreadOf n d p k) (100 * n + spreadOf n d p k) d (omega arith)) (upper-above n d p k)
+
+-- a rounded number is whole cents, whatever it is
+cents : (x d : ℕ) → cent x d ≡ 100 * ((x + 5_000 * d) / (10_000 * d))
+unfolding cent
+cents x d = omega arith
+
+whole-cents : WholeCents
+unfolding lowerOf upperOf
+whole-cents n d p k =
+    let u = cent (100 * n + spreadOf n d p k) d in
+    ((_, cents _ d), if-arms (λ x. (c : ℕ) × (x ≡ 100 * c)) (eqb u 0) (λ e. (1, refl)) (λ e. (_, cents _ d)))
+
+upper-not-zero : UpperNotZero
+unfolding upperOf
+upper-not-zero n d p k =
+    let u = cent (100 * n + spreadOf n d p k) d in
+    if-arms (λ x. 1 ≤ x) (eqb u 0) (λ e. omega arith) (λ e. let some = eqb-false u 0 e in omega arith)
+
+-- a number that is rounded to whole cents and is at most 219,999,999.78
+cent-fits : (x d : ℕ) → x ≤ 219_999_999_780 * d → cent x d ≤ 2_200_000_000
+cent-fits x d i = go (ℕ-discrete d 0)
+  where
+    go : Dec (d ≡ 0) → cent x d ≤ 2_200_000_000
+    go (yes z) = rw (cent-of-none x d z) (omega arith)
+    go (no z) =
+        let h : 1 ≤ d = omega arith in
+        let below = nearest x d h in
+        let by-d : cent x d * d ≤ 2_200_000_048 * d = omega arith in
+        let small-u : cent x d ≤ 2_200_000_048 = le-of-mul-le-mul-right by-d h in
+        let whole = cent-nearest x d h .1 in
+        omega arith
 
 pub upper-fits : UpperFits
 unfolding upperOf
-upper-fits n d tier close leverage time end h i =
+upper-fits n d tier close leverage time end i =
     let p = percentOf tier close in
     let k = factorOf leverage time end in
     let a = spreadOf n d p k in
-    let u = cent (100 * n + a) d in
     let most : 100 * n + a ≤ 219_999_999_780 * d =
     ⊎-elim (λ l. omega arith) (λ l. omega arith) (spread-most n d p k (factor-most leverage time end) (percent-range tier close)) in
-    let below = nearest (100 * n + a) d h in
-    let by-d : u * d ≤ 2_200_000_048 * d = omega arith in
-    let small-u : u ≤ 2_200_000_048 = le-of-mul-le-mul-right by-d h in
-    let whole = cent-nearest (100 * n + a) d h .1 in
-    if-arms (λ x. x ≤ 2_200_000_000) (eqb u 0) (λ e. omega arith) (λ e. omega arith)
+    let fits = cent-fits (100 * n + a) d most in
+    if-arms (λ x. x ≤ 2_200_000_000) (eqb (cent (100 * n + a) d) 0) (λ e. omega arith) (λ e. fits)
 
 -- ------------------------------------------------------------------ the mean
 
-pub mean-most : (sum count high : ℕ) → sum ≤ high * count → meanOf sum count ≤ high
-unfolding meanOf
-mean-most s c high h = go (ℕ-discrete c 0)
+pub printed-most : (sum count high : ℕ) → sum ≤ high * count → printedOf sum count ≤ high
+unfolding printedOf
+printed-most s c high h = go (ℕ-discrete c 0)
   where
     go : Dec (c ≡ 0) → (2 * s + c) / (2 * c) ≤ high
     go (yes z) = rw (z, div-zero) (omega arith)
@@ -135,11 +171,22 @@ mean-most s c high h = go (ℕ-discrete c 0)
         let q : (2 * s + c) / (2 * c) < high + 1 = div-lt-iff-lt-mul p .1 (rw add-mul (omega arith)) in
         omega arith
 
-pub mean-least : (sum count low : ℕ) → 1 ≤ count → low * count ≤ sum → low ≤ meanOf sum count
-unfolding meanOf
-mean-least s c low h i =
+printed-least : (sum count low : ℕ) → 1 ≤ count → low * count ≤ sum → low ≤ printedOf sum count
+unfolding printedOf
+printed-least s c low h i =
     let by = mul-left-comm low 2 c in
     le-div-iff-mul-le {k = 2 * c} (omega arith) .1 (omega arith)
+
+pub printed-between : PrintedBetween
+printed-between low high s c h l m = (printed-least s c low h l, printed-most s c high m)
+
+pub printed-of-none : (sum count : ℕ) → count ≡ 0 → printedOf sum count ≡ 0
+unfolding printedOf
+printed-of-none s c z = rw (z, div-zero)
+
+printed-near : PrintedNear
+unfolding distance
+printed-near s c h = let near = printed-given s c h in omega arith
 
 -- bounds of each price bound the sum
 sums : (low high sum : ℕ) (prices : List ℕ) → Within low high prices
@@ -152,9 +199,7 @@ sums low high s (x ∷ xs) w =
     (omega arith, omega arith)
 
 pub mean-between : MeanBetween
-mean-between low high x xs w =
-    let s = sums low high 0 (x ∷ xs) w in
-    (mean-least _ (length (x ∷ xs)) low (omega arith) (omega arith), mean-most _ (length (x ∷ xs)) high (omega arith))
+mean-between low high xs w = let s = sums low high 0 xs w in (omega arith, omega arith)
 
 -- ------------------------------------------------------------------ all of them
 
@@ -162,23 +207,28 @@ pub laws : Laws
 laws = record {
   percent-is = percent-is;
   factor-is = factor-is;
+  fits-is = fits-is;
   spread-is = spread-is;
   cent-is = cent-is;
   bands-are = bands-are;
-  mean-is = mean-is;
+  printed-is = printed-is;
   moves-is = moves-is;
   bands-scaled = bands-scaled;
   moves-scaled = moves-scaled;
   around = around;
   ordered = ordered;
+  whole-cents = whole-cents;
+  upper-not-zero = upper-not-zero;
   upper-fits = upper-fits;
   mean-between = mean-between;
-  mean-in-range = mean-between 1 999_999_999;
+  printed-near = printed-near;
+  printed-between = printed-between;
   examples = examples;
   percent-determined = λ tier close. agree (percentOf tier close);
   factor-determined = λ leverage time end. agree (factorOf leverage time end);
+  fits-determined = λ m. agree (fits m);
   minus-determined = λ x y. agree (minusOf x y);
-  bands-determined = λ reference percent k. agree (bandsOf reference 1 percent k);
-  mean-determined = λ sum count. agree (meanOf sum count);
-  moves-determined = λ mean reference. agree (movesOf mean 1 reference 1);
+  bands-determined = λ reference percent k. agree (bandsBy reference percent k);
+  printed-determined = λ m. agree (printedBy m);
+  moves-determined = λ mean reference. agree (movesBy mean reference);
 }

@@ -12,10 +12,11 @@ use Rattle.forms.specs.Choice.{if_then_else_}
 use Rattle.forms.specs.Words.{Gives}
 use Rattle.forms.proofs.Choice.{if-true, if-false, if-arms}
 use Rattle.forms.proofs.Decides.{Decides, either-way, is-true, exactly-where, is-false, by-le, by-lt, words, choice, take, skip, exactly}
-use Rattle.band.specs.Band.{small, percentOf, factorOf, spreadOf, cent, lowerOf, upperOf, bandsOf, meanOf, distance, movesOf}
-use Rattle.band.specs.Words.{percents, factors, spreads, NearestCent, IsLower, IsUpper, AreBands, IsMean, OnePercent}
+use Rattle.band.specs.Band.{small, percentOf, factorOf, spreadOf, cent, lowerOf, upperOf, bandsOf, printedOf, distance, movesOf, fits, fit, noMean}
+use Rattle.band.specs.Words.{percents, factors, spreads, NearestCent, IsLower, IsUpper, AreBands, IsPrinted, OnePercent, Fits}
 use Rattle.band.specs.declared.Bands.{Bands}
-use Rattle.band.specs.Laws.{PercentIs, FactorIs, SpreadIs, CentIs, BandsAre, MeanIs, MovesIs, BandsScaled, MovesScaled}
+use Rattle.band.specs.declared.Mean.{Mean}
+use Rattle.band.specs.Laws.{PercentIs, FactorIs, SpreadIs, CentIs, BandsAre, PrintedIs, FitsIs, MovesIs, BandsScaled, MovesScaled}
 
 -- ------------------------------------------------------------------ percent and k
 
@@ -44,6 +45,20 @@ factor-given leverage time end h =
 
 pub factor-is : FactorIs
 factor-is leverage time end k h = exactly _ _ k (factor-given leverage time end h)
+
+-- ------------------------------------------------------------------ the means that the functions take
+
+pub fits-decides : (m : Mean) → Decides (fits m) (Fits m)
+unfolding fits
+fits-decides m = search words
+
+pub fit-as-it-is : (m : Mean) → Fits m → fit m ≡ m
+unfolding fit
+fit-as-it-is m k = if-true _ _ _ (is-true _ (fits-decides m) k)
+
+pub fits-is : FitsIs
+unfolding fit
+fits-is m = (exactly-where (fits-decides m), fit-as-it-is m, λ n. if-false _ _ _ (is-false _ (fits-decides m) n))
 
 -- ------------------------------------------------------------------ A, and the cent
 
@@ -127,21 +142,21 @@ pub bands-are : BandsAre
 unfolding bandsOf
 bands-are n d p k l h = ((λ e. subst (λ l. AreBands n d p k (l .lower) (l .upper)) e (bands-given n d p k h)), one-bands n d p k l h)
 
--- ------------------------------------------------------------------ the mean, and one percent
+-- ------------------------------------------------------------------ the printed mean, and one percent
 
-mean-given : (s c : ℕ) → 1 ≤ c → IsMean s c (meanOf s c)
-unfolding meanOf
-mean-given s c h =
+pub printed-given : (s c : ℕ) → 1 ≤ c → IsPrinted s c (printedOf s c)
+unfolding printedOf
+printed-given s c h =
     let below = div-mul-le-self (2 * s + c) (2 * c) in
     let above = lt-div-mul-add {a = 2 * s + c} {b = 2 * c} (omega arith) in
     (omega arith, omega arith)
 
-one-mean : (s c m : ℕ) → IsMean s c m → meanOf s c ≡ m
-unfolding meanOf
-one-mean s c m k = div-eq-of-lt-le (2 * c) (omega arith) (omega arith)
+one-printed : (s c m : ℕ) → IsPrinted s c m → printedOf s c ≡ m
+unfolding printedOf
+one-printed s c m k = div-eq-of-lt-le (2 * c) (omega arith) (omega arith)
 
-pub mean-is : MeanIs
-mean-is s c m h = ((λ e. subst (IsMean s c) e (mean-given s c h)), one-mean s c m)
+pub printed-is : PrintedIs
+printed-is s c m h = ((λ e. subst (IsPrinted s c) e (printed-given s c h)), one-printed s c m)
 
 pub moves-decides : (m c n d : ℕ) → Decides (movesOf m c n d) (OnePercent m c n d)
 unfolding movesOf distance

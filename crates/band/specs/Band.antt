@@ -1,12 +1,13 @@
 -- The band arithmetic (document 01, "Band arithmetic") and the one percent test ("States"). A price is whole ten-thousandths of a dollar. A
--- reference is a fraction n / d, and so is a mean; today both are whole prices, with d = 1.
+-- mean is a fraction, a sum of prices by their count, and so is a reference n / d (R-3). Only bands and the printed value are rounded.
 -- Assumes nothing.
 use Prim.Native.Nat.{ℕ, _+_, _-_, _*_, _/_, min}
 use mathlib.Core.Bool.{Bool}
 use mathlib.Core.List.{[], _∷_}
 use lib.Dec.{ltb, leb, eqb}
-use Rattle.forms.specs.Choice.{if_then_else_, anyOf}
+use Rattle.forms.specs.Choice.{if_then_else_, allOf, anyOf}
 use Rattle.band.specs.declared.Bands.{Bands}
+use Rattle.band.specs.declared.Mean.{Mean}
 
 -- the value that means the small rule, in the place of a percent
 abbrev pub small : ℕ
@@ -25,6 +26,22 @@ factorOf leverage time end =
     if ltb 3 leverage then 0 else
     if anyOf (ltb time 900_000 ∷ leb (end - 1_500_000) time ∷ []) then 2 * leverage else
     leverage
+
+-- a price as a mean: a sum with count 1
+abbrev pub priceOf : ℕ → Mean
+priceOf price = record { sum = price; count = 1 }
+
+-- no mean: there is no price
+abbrev pub noMean : Mean
+noMean = record { sum = 0; count = 0 }
+
+-- whether the functions of src/lib.rt have room for a mean
+unfoldable pub fits : Mean → Bool
+fits m = allOf (leb (m .count) 1_000 ∷ leb (m .sum) (4_294_967_295 * m .count) ∷ [])
+
+-- the mean, or none where they have no room for it
+unfoldable pub fit : Mean → Mean
+fit m = if fits m then m else noMean
 
 -- A, the distance of the bands from a reference n / d, as a numerator over d in hundredths of a price's unit; by the small rule at most k times
 -- 15 cents
@@ -54,14 +71,26 @@ upperOf n d percent k =
 unfoldable pub bandsOf : ℕ → ℕ → ℕ → ℕ → Bands
 bandsOf n d percent k = record { lower = lowerOf n d percent k; upper = upperOf n d percent k }
 
--- the mean of `count` prices with that sum, a half rounded up; without a price it is 0, since x / 0 is 0
-unfoldable pub meanOf : ℕ → ℕ → ℕ
-meanOf sum count = (2 * sum + count) / (2 * count)
+-- the bands as the functions give them: a reference that they have no room for counts as none
+abbrev pub bandsBy : Mean → ℕ → ℕ → Bands
+bandsBy reference percent k = bandsOf (fit reference .sum) (fit reference .count) percent k
+
+-- the printed value of a mean, in whole ten-thousandths, a half rounded up; without a price it is 0, since x / 0 is 0
+unfoldable pub printedOf : ℕ → ℕ → ℕ
+printedOf sum count = (2 * sum + count) / (2 * count)
+
+-- the same of a mean
+abbrev pub printedBy : Mean → ℕ
+printedBy m = printedOf (m .sum) (m .count)
 
 -- the distance of two numbers: one of the two differences is 0
 unfoldable pub distance : ℕ → ℕ → ℕ
 distance a b = (a - b) + (b - a)
 
--- the one percent test of a mean m / c and a reference n / d: 100 x |mean - reference| >= reference
+-- the one percent test of a mean m / c and a reference n / d: 100 x |mean - reference| >= reference, with nothing rounded
 unfoldable pub movesOf : ℕ → ℕ → ℕ → ℕ → Bool
 movesOf m c n d = leb (n * c) (100 * distance (m * d) (n * c))
+
+-- the test as the functions give it
+abbrev pub movesBy : Mean → Mean → Bool
+movesBy mean reference = movesOf (fit mean .sum) (fit mean .count) (fit reference .sum) (fit reference .count)

@@ -10,18 +10,20 @@ use lib.ListN.{length}
 use Rattle.forms.specs.Promises.{Determines}
 use Rattle.forms.specs.Tables.{every}
 use Rattle.forms.specs.Words.{Gives}
-use Rattle.band.specs.Band.{percentOf, factorOf, spreadOf, lowerOf, upperOf, minusOf, bandsOf, cent, meanOf, movesOf}
-use Rattle.band.specs.Words.{percents, factors, spreads, NearestCent, AreBands, IsMean, OnePercent}
+use Rattle.band.specs.Band.{percentOf, factorOf, noMean, fits, fit, spreadOf, lowerOf, upperOf, minusOf, bandsOf, bandsBy, cent, printedOf, printedBy, distance, movesOf, movesBy}
+use Rattle.band.specs.Words.{percents, factors, Fits, spreads, NearestCent, AreBands, IsPrinted, OnePercent}
 use Rattle.band.specs.Examples.{right, byHand}
 use Rattle.band.specs.declared.Bands.{Bands}
+use Rattle.band.specs.declared.Mean.{Mean}
 
 -- every price of the list is from `low` to `high`
 abbrev pub Within : ℕ → ℕ → List ℕ → Type 0
 Within low high [] = Unit {0}
 Within low high (price ∷ prices) = ((low ≤ price) × (price ≤ high)) × Within low high prices
 
-abbrev pub meanOfAll : List ℕ → ℕ
-meanOfAll prices = meanOf (foldl _+_ 0 prices) (length prices)
+-- the exact mean of prices
+abbrev pub meanOfAll : List ℕ → Mean
+meanOfAll prices = record { sum = foldl _+_ 0 prices; count = length prices }
 
 -- ------------------------------------------------------------------ what Band.antt computes, in words
 
@@ -32,6 +34,10 @@ PercentIs = (tier close percent : ℕ) → 1 ≤ tier → tier ≤ 2 → (percen
 -- k of a leverage up to 3, at every time of every session
 abbrev pub FactorIs : Type 0
 FactorIs = (leverage time end k : ℕ) → leverage ≤ 3 → (factorOf leverage time end ≡ k) ↔ Gives (factors leverage time end) k
+
+-- which means are taken as they are; any other counts as none
+abbrev pub FitsIs : Type 0
+FitsIs = (m : Mean) → ((fits m ≡ true) ↔ Fits m) × (Fits m → fit m ≡ m) × (¬ Fits m → fit m ≡ noMean)
 
 -- A of every reference, percent and k
 abbrev pub SpreadIs : Type 0
@@ -45,9 +51,9 @@ CentIs = (x d price : ℕ) → 1 ≤ d → (cent x d ≡ price) ↔ NearestCent 
 abbrev pub BandsAre : Type 0
 BandsAre = (n d percent k : ℕ) (l : Bands) → 1 ≤ d → (bandsOf n d percent k ≡ l) ↔ AreBands n d percent k (l .lower) (l .upper)
 
--- the mean of one price or more
-abbrev pub MeanIs : Type 0
-MeanIs = (sum count mean : ℕ) → 1 ≤ count → (meanOf sum count ≡ mean) ↔ IsMean sum count mean
+-- the printed mean of one price or more
+abbrev pub PrintedIs : Type 0
+PrintedIs = (sum count price : ℕ) → 1 ≤ count → (printedOf sum count ≡ price) ↔ IsPrinted sum count price
 
 -- the one percent test
 abbrev pub MovesIs : Type 0
@@ -55,7 +61,7 @@ MovesIs = (m c n d : ℕ) → (movesOf m c n d ≡ true) ↔ OnePercent m c n d
 
 -- ------------------------------------------------------------------ another fraction for the same number
 
--- the bands depend only on the number n / d: 2n / 2d has the same bands
+-- the bands depend only on the number n / d: jn / jd has the same bands
 abbrev pub BandsScaled : Type 0
 BandsScaled = (j n d percent k : ℕ) → 1 ≤ j → bandsOf (j * n) (j * d) percent k ≡ bandsOf n d percent k
 
@@ -73,48 +79,66 @@ Around = (n d tier close leverage time end : ℕ) → 1 ≤ d → 1_000 * d ≤ 
 
 -- lower <= upper, for every reference, percent and k
 abbrev pub Ordered : Type 0
-Ordered = (n d percent k : ℕ) → 1 ≤ d → lowerOf n d percent k ≤ upperOf n d percent k
+Ordered = (n d percent k : ℕ) → lowerOf n d percent k ≤ upperOf n d percent k
+
+-- both bands are whole cents, for every reference, percent and k
+abbrev pub WholeCents : Type 0
+WholeCents = (n d percent k : ℕ)
+    → ((cents : ℕ) × (lowerOf n d percent k ≡ 100 * cents)) × ((cents : ℕ) × (upperOf n d percent k ≡ 100 * cents))
+
+-- the upper band is never 0
+abbrev pub UpperNotZero : Type 0
+UpperNotZero = (n d percent k : ℕ) → 1 ≤ upperOf n d percent k
 
 -- for every reference up to the largest price the upper band is at most 2,200,000,000, which fits 32 bits but not 31
 abbrev pub UpperFits : Type 0
-UpperFits = (n d tier close leverage time end : ℕ) → 1 ≤ d → n ≤ 999_999_999 * d
+UpperFits = (n d tier close leverage time end : ℕ) → n ≤ 999_999_999 * d
     → upperOf n d (percentOf tier close) (factorOf leverage time end) ≤ 2_200_000_000
 
 -- ------------------------------------------------------------------ the mean
 
--- the mean lies within any bounds of the prices, so between the least and the greatest
+-- the exact mean lies within any bounds of the prices, so between the least and the greatest: each bound times the count bounds the sum
 abbrev pub MeanBetween : Type 0
-MeanBetween = (low high price : ℕ) (prices : List ℕ) → Within low high (price ∷ prices)
-    → (low ≤ meanOfAll (price ∷ prices)) × (meanOfAll (price ∷ prices) ≤ high)
+MeanBetween = (low high : ℕ) (prices : List ℕ) → Within low high prices → let m = meanOfAll prices in
+    (low * m .count ≤ m .sum) × (m .sum ≤ high * m .count)
 
--- the mean of prices in range is in range
-abbrev pub MeanInRange : Type 0
-MeanInRange = (price : ℕ) (prices : List ℕ) → Within 1 999_999_999 (price ∷ prices)
-    → (1 ≤ meanOfAll (price ∷ prices)) × (meanOfAll (price ∷ prices) ≤ 999_999_999)
+-- the printed value is within half a ten-thousandth of the mean: twice the distance, times the count, is at most the count
+abbrev pub PrintedNear : Type 0
+PrintedNear = (sum count : ℕ) → 1 ≤ count → 2 * distance (printedOf sum count * count) sum ≤ count
+
+-- the printed value lies within whole bounds of the mean, so that of prices in range is in range
+abbrev pub PrintedBetween : Type 0
+PrintedBetween = (low high sum count : ℕ) → 1 ≤ count → low * count ≤ sum → sum ≤ high * count
+    → (low ≤ printedOf sum count) × (printedOf sum count ≤ high)
 
 -- ------------------------------------------------------------------ all of them
 
 pub record Laws : Type 0 where
   pub percent-is : PercentIs
   pub factor-is : FactorIs
+  pub fits-is : FitsIs
   pub spread-is : SpreadIs
   pub cent-is : CentIs
   pub bands-are : BandsAre
-  pub mean-is : MeanIs
+  pub printed-is : PrintedIs
   pub moves-is : MovesIs
   pub bands-scaled : BandsScaled
   pub moves-scaled : MovesScaled
   pub around : Around
   pub ordered : Ordered
+  pub whole-cents : WholeCents
+  pub upper-not-zero : UpperNotZero
   pub upper-fits : UpperFits
   pub mean-between : MeanBetween
-  pub mean-in-range : MeanInRange
+  pub printed-near : PrintedNear
+  pub printed-between : PrintedBetween
   -- the definitions give the results that were worked out by hand
   pub examples : every right byHand ≡ true
   -- two results that a promise of src/lib.rt allows agree
   pub percent-determined : (tier close : ℕ) → Determines (λ r. r ≡ percentOf tier close)
   pub factor-determined : (leverage time end : ℕ) → Determines (λ r. r ≡ factorOf leverage time end)
+  pub fits-determined : (m : Mean) → Determines (λ r. r ≡ fits m)
   pub minus-determined : (x y : ℕ) → Determines (λ r. r ≡ minusOf x y)
-  pub bands-determined : (reference percent k : ℕ) → Determines (λ r. r ≡ bandsOf reference 1 percent k)
-  pub mean-determined : (sum count : ℕ) → Determines (λ r. r ≡ meanOf sum count)
-  pub moves-determined : (mean reference : ℕ) → Determines (λ r. r ≡ movesOf mean 1 reference 1)
+  pub bands-determined : (reference : Mean) (percent k : ℕ) → Determines (λ r. r ≡ bandsBy reference percent k)
+  pub printed-determined : (m : Mean) → Determines (λ r. r ≡ printedBy m)
+  pub moves-determined : (mean reference : Mean) → Determines (λ r. r ≡ movesBy mean reference)

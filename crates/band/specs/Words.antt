@@ -1,6 +1,6 @@
 -- The band arithmetic in words (document 01, "Band arithmetic"), and the one percent test ("States"). Each name is a proposition over numbers, or
 -- a table of such; from Band.antt they use only the name `small`. The laws `percent-is`, `factor-is`, `spread-is`, `cent-is`, `bands-are`,
--- `mean-is` and `moves-is` say that Band.antt computes this.
+-- `printed-is` and `moves-is` say that Band.antt computes this.
 --
 -- To read it: `A and B`, `A or B`, `¬ A` are "and", "or", "not"; `a ≡ b` is "equals"; `(x : ℕ) × A` is "there is a number x with A"; `n for A`
 -- is a row of a table: the number n, given where A holds and no row above does. A price is whole ten-thousandths of a dollar, and a
@@ -12,6 +12,7 @@ use mathlib.Core.Path.{_≡_}
 use Rattle.forms.specs.Words.{_or_, _and_, Number, Gives, Otherwise}
 use Rattle.forms.specs.Words.Number.{_for_}
 use Rattle.band.specs.Band.{small}
+use Rattle.band.specs.declared.Mean.{Mean}
 
 -- ------------------------------------------------------------------ percent and k
 
@@ -30,6 +31,12 @@ factors leverage time end =
     (2 * leverage) for (time < 900_000 or end - 1_500_000 ≤ time) ∷
     leverage for Otherwise ∷
     []
+
+-- ------------------------------------------------------------------ the means that the functions take
+
+-- up to 1,000 prices of 32 bits: for these src/lib.rt has room, and a window has at most 512
+abbrev pub Fits : Mean → Type 0
+Fits m = m .count ≤ 1_000 and m .sum ≤ 4_294_967_295 * m .count
 
 -- ------------------------------------------------------------------ the bands of a reference n / d
 
@@ -58,11 +65,11 @@ IsUpper n d a upper = (1 ≤ upper and NearestCent (100 * n + a) d upper) or (Ne
 abbrev pub AreBands : (n d percent k lower upper : ℕ) → Type 0
 AreBands n d percent k lower upper = (a : ℕ) × Gives (spreads n d percent k) a × IsLower n d a lower × IsUpper n d a upper
 
--- ------------------------------------------------------------------ the mean, and one percent
+-- ------------------------------------------------------------------ the printed mean, and one percent
 
 -- the whole number nearest to sum / count: at most a half above it and less than a half below, so a half goes up; without a price there is none
-abbrev pub IsMean : (sum count mean : ℕ) → Type 0
-IsMean sum count mean = 2 * mean * count ≤ 2 * sum + count and 2 * sum < 2 * mean * count + count
+abbrev pub IsPrinted : (sum count price : ℕ) → Type 0
+IsPrinted sum count price = 2 * price * count ≤ 2 * sum + count and 2 * sum < 2 * price * count + count
 
 -- 100 x |mean - reference| >= reference, of a mean m / c and a reference n / d, each times c x d
 abbrev pub OnePercent : (m c n d : ℕ) → Type 0

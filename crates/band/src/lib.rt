@@ -1,8 +1,9 @@
-// Band arithmetic: percent, factor k, the bands, the mean and the one percent test. No public function has a
-// `requires`: a definition of specs/Band.antt gives the result for every input.
+// Band arithmetic: percent, factor k, the bands, the printed value of a mean and the one percent test. No public
+// function has a `requires`: a definition of specs/Band.antt gives the result for every input.
 ghost use mathlib.Core.Path.{_≡_};
-ghost use Prim.Native.Nat.{_<_, _^_};
-ghost use Rattle.band.specs.Band.{percentOf, factorOf, spreadOf, cent, minusOf, bandsOf, meanOf, movesOf};
+ghost use Prim.Native.Nat.{_/_, _≤_, _<_, _^_};
+ghost use Rattle.band.specs.Band.{percentOf, factorOf, fits, fit, spreadOf, cent, minusOf, bandsBy, printedBy, movesBy};
+ghost use Rattle.band.specs.Words.{Fits};
 
 // The percent value that means the small rule.
 const SMALL: u8 = 0;
@@ -12,6 +13,17 @@ pub const DOUBLED_UNTIL: u32 = 900_000;
 
 // k is also doubled from this long before the session's end on.
 pub const DOUBLED_BEFORE_END: u64 = 1_500_000;
+
+// The arithmetic has room for a mean of this many prices of 32 bits; a window has at most 512.
+const MOST_PRICES: u64 = 1_000;
+
+// An exact mean: the sum of some prices, and how many they are. A price is the mean of itself alone, 0 by 0 is none.
+// The count has 64 bits too, so that no record that holds a mean has padding.
+#[repr(C)]
+pub struct Mean {
+    pub sum: u64,
+    pub count: u64,
+}
 
 // A lower and an upper band. They have 64 bits: the upper band of a reference that was not validated yet can
 // overflow 32.
@@ -53,28 +65,60 @@ pub fn factor(leverage: u32, time: u32, end: u32) -> u8
     k
 }
 
-// A: how far the bands are from the reference, in hundredths of a price's unit.
-fn spread(reference: u32, percent: u8, k: u8) -> u64
-    ensures { λ a. ⌜ (a ≡ spreadOf reference 1 percent k) × (a < 2 ^ 48) ⌝ }
+// Whether the arithmetic has room for a mean.
+pub fn fits(m: Mean) -> bool
+    ensures { λ r. ⌜ r ≡ fits m ⌝ }
 {
-    let r = reference as u64;
-    let f = k as u64;
-    if percent == SMALL {
-        let s = 75 * r;
-        if s < 150_000 {
-            return f * s;
-        }
-        return f * 150_000;
+    if MOST_PRICES < m.count {
+        return false;
     }
-    f * (percent as u64) * r
+    m.sum <= 4_294_967_295 * m.count
 }
 
-// Rounds to the nearest cent, a half up.
-fn to_cent(x: u64) -> u64
-    requires { ⌜ x < 2 ^ 49 ⌝ }
-    ensures { λ r. ⌜ r ≡ cent x 1 ⌝ }
+// The mean, or none where there is no room for it.
+fn fitted(m: Mean) -> Mean
+    ensures { λ r. ⌜ (r ≡ fit m) × Fits r ⌝ }
 {
-    (x + 5_000) / 10_000 * 100
+    if fits(m) {
+        return m;
+    }
+    Mean { sum: 0, count: 0 }
+}
+
+// A: how far the bands are from the reference, in hundredths of a price's unit, times the reference's count.
+fn spread(m: Mean, percent: u8, k: u8) -> u64
+    requires { ⌜ Fits m ⌝ }
+    ensures { λ a. ⌜ (a ≡ spreadOf (m .sum) (m .count) percent k) × (a < 2 ^ 59) ⌝ }
+{
+    let f = k as u64;
+    if percent == SMALL {
+        let most = 150_000 * m.count;
+        let s = 75 * m.sum;
+        if s < most {
+            return f * s;
+        }
+        return f * most;
+    }
+    f * (percent as u64) * m.sum
+}
+
+// x / count. A price alone is not divided, since a division takes the processor longer than the rest of a band.
+fn divided(x: u64, count: u64) -> u64
+    requires { ⌜ 1 ≤ count ⌝ }
+    ensures { λ r. ⌜ r ≡ x / count ⌝ }
+{
+    if count == 1 {
+        return x;
+    }
+    x / count
+}
+
+// Rounds x / count to the nearest cent, a half up.
+fn to_cent(x: u64, count: u64) -> u64
+    requires { ⌜ (x < 2 ^ 60) × (1 ≤ count) ⌝ }
+    ensures { λ r. ⌜ r ≡ cent x count ⌝ }
+{
+    (divided(x, count) + 5_000) / 10_000 * 100
 }
 
 // The difference, or 0 where y is the greater.
@@ -87,45 +131,55 @@ pub fn minus(x: u64, y: u64) -> u64
     x - y
 }
 
-// The lower and the upper band of a whole reference, each rounded once.
-pub fn bands_of(reference: u32, percent: u8, k: u8) -> Bands
-    ensures { λ b. ⌜ b ≡ bandsOf reference 1 percent k ⌝ }
+// The lower and the upper band of a reference, each rounded once.
+pub fn bands_of(reference: Mean, percent: u8, k: u8) -> Bands
+    ensures { λ b. ⌜ b ≡ bandsBy reference percent k ⌝ }
 {
-    let a = spread(reference, percent, k);
-    let r = 100 * (reference as u64);
-    let lower = to_cent(minus(r, a));
-    let upper = to_cent(r + a);
+    let m = fitted(reference);
+    if m.count == 0 {
+        return Bands {
+            lower: 0,
+            upper: 100,
+        };
+    }
+    let a = spread(m, percent, k);
+    let r = 100 * m.sum;
+    let lower = to_cent(minus(r, a), m.count);
+    let upper = to_cent(r + a, m.count);
     if upper == 0 {
         return Bands { lower, upper: 100 };
     }
     Bands { lower, upper }
 }
 
-// The mean of `count` prices, a half rounded up; 0 where there is none. It divides first and rounds by the
-// remainder, so that nothing overflows.
-pub fn mean(sum: u64, count: u32) -> u64
-    ensures { λ r. ⌜ r ≡ meanOf sum count ⌝ }
+// The printed value of a mean: a whole price, a half rounded up; 0 where there is none. It divides first and rounds
+// by the remainder, so that nothing overflows.
+pub fn printed(m: Mean) -> u64
+    ensures { λ r. ⌜ r ≡ printedBy m ⌝ }
 {
-    let c = count as u64;
+    let c = m.count;
     if c == 0 {
         return 0;
     }
-    let q = sum / c;
-    let rest = sum % c;
-    if c <= 2 * rest {
-        return q + 1;
+    let q = divided(m.sum, c);
+    let rest = m.sum - q * c;
+    if rest < c - rest {
+        return q;
     }
-    q
+    q + 1
 }
 
-// Whether a mean differs from the reference by one percent of the reference or more; both are whole prices.
-pub fn moves(mean: u32, reference: u32) -> bool
-    ensures { λ r. ⌜ r ≡ movesOf mean 1 reference 1 ⌝ }
+// Whether a mean differs from the reference by one percent of the reference or more.
+pub fn moves(mean: Mean, reference: Mean) -> bool
+    ensures { λ r. ⌜ r ≡ movesBy mean reference ⌝ }
 {
-    let m = mean as u64;
-    let r = reference as u64;
-    if m < r {
-        return r <= 100 * (r - m);
+    let m = fitted(mean);
+    let n = fitted(reference);
+    // mean and reference, each times both counts
+    let there = m.sum * n.count;
+    let here = n.sum * m.count;
+    if there < here {
+        return here <= 100 * (here - there);
     }
-    r <= 100 * (m - r)
+    here <= 100 * (there - here)
 }

@@ -13,7 +13,7 @@ use Rattle.rules.specs.Quotes.{inForce, kTime, bandsIn, higher, lesser, bestBid
 use Rattle.rules.specs.States.{look, begin-trading}
 use Rattle.rules.specs.Moments.{momentTable, sooner, earliest, next, dueBy, pastAt}
 use Rattle.rules.specs.Messages.{taken, quoteRules, does, after}
-use Rattle.rules.specs.Numbers.{notPrice, badEnd, badSetup, badTimes, orNotSide, badQuotes, badReference, badTrade, see, badTrades, badStock, rubbish, outOfRange, notPrimary, ownChecks, messageChecks, checks, tells, readChecks, reads, answer, readAnswer, nextAnswer, fresh, orBadSetup, badShape, callChecks, setupChecks, zeros}
+use Rattle.rules.specs.Numbers.{notPrice, badEnd, badSetup, badTimes, orNotSide, badQuotes, notReference, badReference, badTrade, see, badTrades, badStock, rubbish, outOfRange, notPrimary, ownChecks, messageChecks, checks, tells, readChecks, reads, answer, readAnswer, nextAnswer, fresh, orBadSetup, badShape, callChecks, setupChecks, zeros}
 use Rattle.rules.specs.Machine.{tell, numberIn, stepIn, run}
 use Rattle.rules.specs.Book.{machine, blank, book, bookReads, bookNext}
 use Rattle.rules.specs.declared.Message.{Message}
@@ -82,7 +82,7 @@ quoted = told 0 (Quote 1 0 0 0) (zeros 0) ∷ []
 
 -- it moves the clock
 moves : getD (layout (run machine (blank end) (book end (setupsOf one)) (calls quoted)) .records) 0 noRecord .stock .course .clock ≡ 1
-unfolding if_then_else_ allOf anyOf first total oldest figuresOf inForce kTime bandsIn look momentTable sooner earliest next dueBy pastAt taken quoteRules does after notPrice badEnd badSetup badTimes orNotSide badQuotes badReference badTrade see badTrades badStock rubbish outOfRange notPrimary ownChecks messageChecks checks tells fresh numberIn stepIn setupsOf
+unfolding if_then_else_ allOf anyOf first total oldest figuresOf inForce kTime bandsIn look momentTable sooner earliest next dueBy pastAt taken quoteRules does after notPrice badEnd badSetup badTimes orNotSide badQuotes notReference badReference badTrade see badTrades badStock rubbish outOfRange notPrimary ownChecks messageChecks checks tells fresh numberIn stepIn setupsOf
 moves = refl
 
 pub acknowledging-fails : Demand2 acknowledging → ⊥
@@ -119,7 +119,7 @@ comes-in hs = bookNext end hs (512 * length hs) (512 * length hs) 0
 tells-apart :
     (reads-in new .number ≡ 0) × (reads-in opened .number ≡ 0) × (reads-in new .state ≡ 0) × (reads-in opened .state ≡ 1)
     × (comes-in new .number ≡ 0) × (comes-in opened .number ≡ 0) × (comes-in new .time ≡ 300_000) × (comes-in opened .time ≡ 30_001)
-unfolding if_then_else_ allOf anyOf first percentOf factorOf spreadOf cent lowerOf upperOf bandsOf total oldest figuresOf inForce kTime bandsIn higher lesser bestBid bestOffer bidFlag offerFlag bestOf flagged crossed look begin-trading momentTable sooner earliest next dueBy pastAt taken does after notPrice badEnd badSetup badTimes orNotSide badQuotes badReference badTrade see badTrades badStock rubbish outOfRange notPrimary ownChecks messageChecks checks tells readChecks reads answer readAnswer nextAnswer fresh badShape callChecks numberIn stepIn bookReads bookNext setupsOf
+unfolding if_then_else_ allOf anyOf first percentOf factorOf spreadOf cent lowerOf upperOf bandsOf total oldest figuresOf inForce kTime bandsIn higher lesser bestBid bestOffer bidFlag offerFlag bestOf flagged crossed look begin-trading momentTable sooner earliest next dueBy pastAt taken does after notPrice badEnd badSetup badTimes orNotSide badQuotes notReference badReference badTrade see badTrades badStock rubbish outOfRange notPrimary ownChecks messageChecks checks tells readChecks reads answer readAnswer nextAnswer fresh badShape callChecks numberIn stepIn bookReads bookNext setupsOf
 tells-apart = (refl, refl, refl, refl, refl, refl, refl, refl)
 
 -- the bytes of both

@@ -72,12 +72,13 @@ fn print_record(r: Record) {
     print_setup(s.setup);
     print_number(s.end as u64);
     print_course(s.course);
-    print_number(reference.price as u64);
+    print_number(reference.price.sum);
+    print_number(reference.price.count);
     print_number(reference.start as u64);
     print_number(reference.hold as u64);
     print_side(bids);
     print_side(offers);
-    print_number(r.count as u64);
+    print_number(r.count);
     io::write_all(1, b"\n");
 }
 

@@ -8,6 +8,7 @@ ghost use Rattle.rules.specs.Book.{noSetup};
 ghost use Rattle.rules.specs.Numbers.{orBadSetup};
 ghost use Rattle.calls.specs.Setup.{setupsOf, recordOf, setupNumber};
 use crate::shape;
+use band::Mean;
 use rules::BAD_SETUP;
 use rules::Course;
 use rules::DONE;
@@ -93,8 +94,9 @@ pub(crate) fn started(setup: Setup, end: u32) -> Record
         entry: 0,
         pause: 0,
     };
+    let price = Mean { sum: 0, count: 0 };
     let reference = Reference {
-        price: 0,
+        price,
         start: 0,
         hold: 0,
     };

@@ -7,7 +7,7 @@ use Rattle.forms.proofs.Bools.{joined}
 use Rattle.forms.proofs.Promises.{agree}
 use Rattle.forms.specs.Checks.{first}
 use Rattle.rules.specs.Numbers.{badEnd, badSetup, rubbish, messageChecks, timeChecks}
-use Rattle.quotes.specs.Parts.{stockOf, bare}
+use Rattle.quotes.specs.Parts.{stockOf, bare, fitted}
 use Rattle.judge.specs.Verdict.{verdictOf}
 use Rattle.judge.specs.Laws.{EarliestIs, RubbishIs, SettlingAsksNoQuotes, Laws}
 
@@ -30,6 +30,6 @@ laws = record {
   bad-end-determined = λ end. agree (badEnd end);
   bad-setup-determined = λ u. agree (badSetup u);
   judged-determined = λ f k q. agree (verdictOf f (stockOf k q));
-  message-refusal-determined = λ m held earliest k q. agree (first (messageChecks m held earliest (stockOf k q)));
+  message-refusal-determined = λ m held earliest k q. agree (first (messageChecks m held earliest (stockOf (fitted k) q)));
   settle-refusal-determined = λ time earliest k. agree (first (timeChecks time earliest (bare k)));
 }

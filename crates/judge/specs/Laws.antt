@@ -9,7 +9,7 @@ use Rattle.forms.specs.Promises.{Determines}
 use Rattle.rules.specs.Stock.{Whole, clockOf, figuresOf}
 use Rattle.rules.specs.Moments.{nextOf}
 use Rattle.rules.specs.Numbers.{badEnd, badSetup, badTrades, rubbish, messageChecks, timeChecks}
-use Rattle.quotes.specs.Parts.{stockOf, bare}
+use Rattle.quotes.specs.Parts.{stockOf, bare, fitted}
 use Rattle.quotes.specs.declared.Kept.{Kept}
 use Rattle.judge.specs.Verdict.{verdictOf}
 use Rattle.rules.specs.declared.Figures.{Figures}
@@ -40,5 +40,5 @@ pub record Laws : Type 0 where
   pub bad-setup-determined : (u : Setup) → Determines (λ r. r ≡ badSetup u)
   pub judged-determined : (f : Figures) (k : Kept) (q : Quotes) → Determines (λ r. r ≡ verdictOf f (stockOf k q))
   pub message-refusal-determined : (m : Message) (held : ℕ) (earliest : Moment) (k : Kept) (q : Quotes)
-      → Determines (λ r. r ≡ first (messageChecks m held earliest (stockOf k q)))
+      → Determines (λ r. r ≡ first (messageChecks m held earliest (stockOf (fitted k) q)))
   pub settle-refusal-determined : (time : ℕ) (earliest : Moment) (k : Kept) → Determines (λ r. r ≡ first (timeChecks time earliest (bare k)))

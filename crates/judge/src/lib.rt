@@ -1,9 +1,10 @@
 // The judgement of a stock and of a call: the next moment, what is rubbish, and the ordered refusals. No
-// public function has a `requires`: each gives for every input what the rules say, and changes nothing.
+// public function has a `requires`: each gives for every input what the rules say, and changes nothing; in
+// `message_refusal` a reference that band has no room for counts as none.
 ghost use mathlib.Core.Path.{_≡_};
 ghost use Rattle.forms.specs.Checks.{first};
 ghost use Rattle.rules.specs.Numbers.{badEnd, badSetup, messageChecks, timeChecks};
-ghost use Rattle.quotes.specs.Parts.{stockOf, bare};
+ghost use Rattle.quotes.specs.Parts.{stockOf, bare, fitted};
 ghost use Rattle.judge.specs.Verdict.{verdictOf};
 use quotes::Kept;
 use rules::BEFORE_CLOCK;
@@ -69,8 +70,8 @@ pub fn judged(f: Figures, k: Kept, q: Quotes) -> Verdict
 }
 
 // The number that refuses a message to a stock that is no rubbish, 0 where it is accepted.
-pub fn message_refusal(m: Message, held: u32, earliest: Moment, k: Kept, q: Quotes) -> u32
-    ensures { λ r. ⌜ r ≡ first (messageChecks m held earliest (stockOf k q)) ⌝ }
+pub fn message_refusal(m: Message, held: u64, earliest: Moment, k: Kept, q: Quotes) -> u32
+    ensures { λ r. ⌜ r ≡ first (messageChecks m held earliest (stockOf (fitted k) q)) ⌝ }
 {
     let time = letters::time_of(m);
     if message::out_of_range(k.end, m) {

@@ -9,15 +9,15 @@ ghost use Rattle.rules.specs.Messages.{kind};
 ghost use Rattle.rules.specs.Quotes.{straddle};
 ghost use Rattle.rules.specs.Numbers.{notParticipant, notPrice, notTime, outOfRange, notPrimary, ownChecks};
 ghost use Rattle.rules.specs.declared.Message.the-variants.{Trade};
-ghost use Rattle.quotes.specs.Parts.{stockOf};
+ghost use Rattle.quotes.specs.Parts.{stockOf, fitted};
 use crate::range;
+use crate::range::MOST_HELD;
 use quotes::Kept;
 use rules::DONE;
 use rules::FIRST_FIVE;
 use rules::FLAG_NON_EXECUTABLE;
 use rules::HIGHEST_PRICE;
 use rules::LAST_PARTICIPANT;
-use rules::MOST_TRADES;
 use rules::Message;
 use rules::NO_ROOM;
 use rules::NO_STRADDLE;
@@ -108,15 +108,15 @@ fn last_check(number: u32, applies: bool) -> u32
 }
 
 // The last checks of T: 12 outside bands in force, 13 where 512 trades are held.
-fn trade_refusal(price: u32, held: u32, k: Kept) -> u32
-    ensures { λ r. ⌜ ((time : ℕ) (q : Quotes) → r ≡ first (ownChecks (Trade time price) held (stockOf k q))) ⌝ }
+fn trade_refusal(price: u32, held: u64, k: Kept) -> u32
+    ensures { λ r. ⌜ ((time : ℕ) (q : Quotes) → r ≡ first (ownChecks (Trade time price) held (stockOf (fitted k) q))) ⌝ }
 {
     let basis = quotes::basis_of(k);
     let outside = quotes::is_outside(basis, price);
     if outside {
         return OUTSIDE_BANDS;
     }
-    if MOST_TRADES <= held {
+    if MOST_HELD <= held {
         return NO_ROOM;
     }
     DONE
@@ -124,7 +124,7 @@ fn trade_refusal(price: u32, held: u32, k: Kept) -> u32
 
 // Whether a side has flag 2, which P needs.
 fn is_straddle(k: Kept, q: Quotes) -> bool
-    ensures { λ r. ⌜ r ≡ straddle (stockOf k q) ⌝ }
+    ensures { λ r. ⌜ r ≡ straddle (stockOf (fitted k) q) ⌝ }
 {
     let basis = quotes::basis_of(k);
     let shown = quotes::show(basis, q);
@@ -133,8 +133,8 @@ fn is_straddle(k: Kept, q: Quotes) -> bool
 }
 
 // The number of the message's own checks, 0 where none applies.
-pub(crate) fn own_refusal(m: Message, held: u32, k: Kept, q: Quotes) -> u32
-    ensures { λ r. ⌜ r ≡ first (ownChecks m held (stockOf k q)) ⌝ }
+pub(crate) fn own_refusal(m: Message, held: u64, k: Kept, q: Quotes) -> u32
+    ensures { λ r. ⌜ r ≡ first (ownChecks m held (stockOf (fitted k) q)) ⌝ }
 {
     let pause = k.course.pause as u64;
     let end = k.end;

@@ -4,16 +4,24 @@ ghost use mathlib.Core.List.{foldl};
 ghost use mathlib.Core.Bool.{false};
 ghost use Prim.Native.Nat.{_≤_};
 ghost use Rattle.quotes.specs.Parts.{bare};
-ghost use Rattle.rules.specs.Numbers.{notPrice, notTime, badTimes, orNotSide, badQuotes, badReference, badStock};
+ghost use Rattle.rules.specs.Numbers.{notPrice, notTime, badTimes, orNotSide, badQuotes, notReference, badReference, badStock};
+use band::Mean;
 use quotes::Kept;
 use rules::AFTER_END;
 use rules::CLOSED;
 use rules::HIGHEST_PRICE;
 use rules::LATE;
 use rules::LATE_BEFORE_END;
+use rules::MOST_TRADES;
 use rules::PAUSED;
 use rules::Quotes;
 use rules::TRADING;
+
+// A stock holds at most this many trades, and a reference is of at most this many prices.
+pub(crate) const MOST_HELD: u64 = MOST_TRADES as u64;
+
+// A price is at most this.
+const HIGHEST: u64 = HIGHEST_PRICE as u64;
 
 // Whether a number is no price.
 pub(crate) fn not_price(price: u32) -> bool
@@ -77,13 +85,24 @@ pub(crate) fn bad_quotes(q: Quotes) -> bool
     or_not_sides(bad, offers)
 }
 
-// Whether the reference is over the price range, or missing where there must be one.
+// Whether a mean is of over 512 prices, or has a sum that so many prices cannot have.
+fn not_reference(m: Mean) -> bool
+    ensures { λ r. ⌜ r ≡ notReference m ⌝ }
+{
+    if MOST_HELD < m.count {
+        return true;
+    }
+    (m.sum < m.count) | (HIGHEST * m.count < m.sum)
+}
+
+// Whether the reference is not one that prices can have, or missing where there must be one.
 fn bad_reference(k: Kept) -> bool
     ensures { λ r. ⌜ r ≡ badReference (bare k) ⌝ }
 {
     let state = k.course.state;
     let price = k.reference.price;
-    (HIGHEST_PRICE < price) | ((price == 0) & (TRADING <= state) & (state <= LATE))
+    let bad = not_reference(price);
+    bad | ((price.count == 0) & (TRADING <= state) & (state <= LATE))
 }
 
 // Whether a stock is rubbish, without a look at its quotes, its window and its next moment.

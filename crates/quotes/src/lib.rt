@@ -1,12 +1,13 @@
 // What a stock shows: the bands in force, and the best bid and the best offer with their flags. A function takes
 // only the parts of a stock that it needs. No public function has a `requires`: each gives for every input what the
-// rules of quotes give for a stock with these parts.
+// rules of quotes give for a stock with these parts; a reference that band has no room for counts as none.
 ghost use mathlib.Core.Path.{_≡_};
 ghost use Rattle.rules.specs.States.{noQuotes};
 ghost use Rattle.rules.specs.Numbers.{outside};
 ghost use Rattle.quotes.specs.Parts.{basisOf, stockBy};
 ghost use Rattle.quotes.specs.Shown.{shownOf};
 use band::Bands;
+use band::Mean;
 use rules::Best;
 use rules::Course;
 use rules::Quotes;
@@ -33,7 +34,7 @@ pub struct Basis {
     pub state: u32,
     pub clock: u32,
     pub entry: u32,
-    pub reference: u32,
+    pub reference: Mean,
 }
 
 // What a stock shows.
@@ -46,6 +47,7 @@ pub struct Shown {
 pub fn basis_of(k: Kept) -> Basis
     ensures { λ r. ⌜ r ≡ basisOf k ⌝ }
 {
+    let reference = k.reference.price;
     Basis {
         tier: k.setup.tier,
         leverage: k.setup.leverage,
@@ -54,7 +56,7 @@ pub fn basis_of(k: Kept) -> Basis
         state: k.course.state,
         clock: k.course.clock,
         entry: k.course.entry,
-        reference: k.reference.price,
+        reference,
     }
 }
 

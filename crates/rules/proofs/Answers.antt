@@ -14,12 +14,15 @@ use Rattle.forms.specs.Checks.{first}
 use Rattle.forms.specs.Words.{_or_, _and_, Number, Gives}
 use Rattle.forms.proofs.Choice.{if-true, if-false}
 use Rattle.forms.proofs.Decides.{Decides, words, is-so, stable, either-way, by-lt, by-eq, by-le, skip, take, one-number, exactly, listed as one-listed, numbersIn, within, among}
+use Rattle.band.specs.declared.Mean.{Mean}
+use Rattle.band.proofs.Words.{printed-given}
+use Rattle.band.proofs.Laws.{printed-of-none}
 use Rattle.rules.specs.Stock.{Whole, stateOf}
 use Rattle.rules.specs.Quotes.{bandsIn, bestOf}
-use Rattle.rules.specs.Numbers.{badShape, callChecks, tells, settles, reads, answer, zeros, noNotice, afterTelling, afterSettling, notice, tellAnswer, settleAnswer, readAnswer, setupAnswer, fresh}
+use Rattle.rules.specs.Numbers.{badShape, callChecks, tells, settles, reads, answer, zeros, noNotice, afterTelling, afterSettling, notice, printedReference, tellAnswer, settleAnswer, readAnswer, setupAnswer, fresh}
 use Rattle.rules.specs.Machine.{numberIn, stock}
 use Rattle.rules.specs.Book.{machine, blank, bookTells, bookSettles, bookReads}
-use Rattle.rules.specs.Words.{IsShape, refusals, settleRefusals, readRefusals, bookRefusals, setupRefusals, ShowsNothing, Shows}
+use Rattle.rules.specs.Words.{IsShape, refusals, settleRefusals, readRefusals, bookRefusals, setupRefusals, IsPrinted, ShowsNothing, Shows}
 use Rattle.rules.specs.Demands.{CallsLeave, AnswersShow, BookAnswers, BookNumbersAre, NumbersListed, numbersOf, FreshIs}
 use Rattle.rules.specs.declared.Stock.{Stock}
 use Rattle.rules.specs.declared.Answer.{Answer}
@@ -46,14 +49,25 @@ calls-leave h = (
   )),
 )
 
+-- the printed reference; without one it is 0
+printed-shown : (s : Stock) → IsPrinted (s .reference .price) (printedReference s)
+printed-shown s = go (done-or-not (s .reference .price .count))
+  where
+    m : Mean
+    m = s .reference .price
+
+    go : (m .count ≡ 0) ⊎ (¬ (m .count ≡ 0)) → IsPrinted m (printedReference s)
+    go (inl z) = inl (z, printed-of-none (m .sum) (m .count) z)
+    go (inr n) = inr (printed-given (m .sum) (m .count) (omega arith))
+
 shows-it : (n : ℕ) (s : Stock) → Shows n s (answer n s)
 unfolding answer if_then_else_
 shows-it n s = go (anyOf (eqb n 1 ∷ eqb n 2 ∷ eqb n 3 ∷ [])) (search words)
   where
     go : (b : Bool) → Decides b (n ≡ 1 or n ≡ 2 or n ≡ 3)
-        → Shows n s (if b then zeros n else record { number = n; state = stateOf s; reference = s .reference .price; lower = bandsIn s .lower; upper = bandsIn s .upper; best = bestOf s })
+        → Shows n s (if b then zeros n else record { number = n; state = stateOf s; reference = printedReference s; lower = bandsIn s .lower; upper = bandsIn s .upper; best = bestOf s })
     go true d = (refl, inl (d .holds refl, (refl, (refl, (refl, (refl, (refl, (refl, (refl, refl)))))))))
-    go false d = (refl, inr (d .fails refl, (refl, (refl, (bands-shown s, (bid-shown s, offer-shown s))))))
+    go false d = (refl, inr (d .fails refl, (refl, (printed-shown s, (bands-shown s, (bid-shown s, offer-shown s))))))
 
 pub number-of : (n : ℕ) (s : Stock) → answer n s .number ≡ n
 number-of n s = shows-it n s .0

@@ -85,7 +85,7 @@ bands-shown s = go (either-way _ (force-is s))
 
 lower-upper : (s : Stock) → Force s → bandsIn s .lower ≤ bandsIn s .upper
 unfolding bandsIn bandsOf
-lower-upper s o = rw (if-true _ _ _ (is-true _ (force-is s) o)) (ordered _ 1 _ _ (omega arith))
+lower-upper s o = rw (if-true _ _ _ (is-true _ (force-is s) o)) (ordered _ _ _ _)
 
 -- ------------------------------------------------------------------ a fold that keeps the better of two
 

@@ -13,8 +13,9 @@ use Rattle.forms.specs.Choice.{if_then_else_, allOf, anyOf}
 use Rattle.forms.specs.Words.{_or_, _and_}
 use Rattle.forms.proofs.Choice.{if-true, if-false}
 use Rattle.forms.proofs.Decides.{Decides, words, is-true, is-false, either-way, by-le, by-eq, has, not-among}
-use Rattle.band.specs.Band.{movesOf}
+use Rattle.band.specs.Band.{priceOf, movesOf}
 use Rattle.band.proofs.Words.{moves-decides}
+use Rattle.band.specs.declared.Mean.{Mean}
 use Rattle.rules.specs.Stock.{Trade, Whole, Waiting, Trading, Limit, stateOf, is, at-time, in-state, refer-to, not-early, hold-ended, figuresOf, noTrades, meanIn}
 use Rattle.rules.specs.Quotes.{inForce, kTime, bandsIn, bestOf, flagged, atLimit}
 use Rattle.rules.specs.States.{look, begin-trading, leave, test}
@@ -52,24 +53,24 @@ unfolding figuresOf
 no-count w e = ap length e
 
 -- a reference that starts in Trading
-in-trading : (r : ℕ) (s : Stock) → stateOf s ≡ Trading → look (refer-to r s) ≡ begin-trading r s
+in-trading : (r : Mean) (s : Stock) → stateOf s ≡ Trading → look (refer-to r s) ≡ begin-trading r s
 unfolding begin-trading
 in-trading r s t = ap (λ n. look (in-state n (refer-to r s))) t
 
 -- of a stock s whose window is then w: the mean starts, or nothing does
-abbrev Tests : List Trade → Stock → ℕ → Type 0
+abbrev Tests : List Trade → Stock → Mean → Type 0
 Tests w s r = stateOf s ≡ Trading and s .reference .hold ≡ 0 and IsMean w r and OnePercent r (s .reference .price)
 
 data Tested (w : List Trade) (s s′ : Stock) : Type 0 where
-  moves : (r : ℕ) → Tests w s r → s′ ≡ begin-trading r s → Tested w s s′
-  rests : ¬ ((r : ℕ) × Tests w s r) → s′ ≡ s → Tested w s s′
+  moves : (r : Mean) → Tests w s r → s′ ≡ begin-trading r s → Tested w s s′
+  rests : ¬ ((r : Mean) × Tests w s r) → s′ ≡ s → Tested w s s′
 
 tested : (w : List Trade) (s : Stock) → Tested w s (test (figuresOf w) s)
 unfolding test
-tested w s = go (allOf (is Trading s ∷ eqb (s .reference .hold) 0 ∷ not (noTrades (figuresOf w)) ∷ movesOf r 1 (s .reference .price) 1 ∷ []))
+tested w s = go (allOf (is Trading s ∷ eqb (s .reference .hold) 0 ∷ not (noTrades (figuresOf w)) ∷ movesOf (r .sum) (r .count) (s .reference .price .sum) (s .reference .price .count) ∷ []))
     (search (words, moves-decides))
   where
-    r : ℕ
+    r : Mean
     r = meanIn (figuresOf w)
 
     go : (b : Bool) → Decides b (stateOf s ≡ Trading and s .reference .hold ≡ 0 and ¬ (figuresOf w .count ≡ 0) and OnePercent r (s .reference .price))
@@ -79,7 +80,7 @@ tested w s = go (allOf (is Trading s ∷ eqb (s .reference .hold) 0 ∷ not (noT
         rw (if-true true (look (refer-to r s)) s refl) (moves r (k .0, (k .1 .0, (mean w (some-trades w (k .1 .1 .0)), k .1 .1 .1))) (in-trading r s (k .0)))
     go false d = rw (if-false false (look (refer-to r s)) s refl) (rests (λ k. d .fails refl (told k)) refl)
       where
-        told : ((r : ℕ) × Tests w s r) → stateOf s ≡ Trading and s .reference .hold ≡ 0 and ¬ (figuresOf w .count ≡ 0) and OnePercent r (s .reference .price)
+        told : ((r : Mean) × Tests w s r) → stateOf s ≡ Trading and s .reference .hold ≡ 0 and ¬ (figuresOf w .count ≡ 0) and OnePercent r (s .reference .price)
         told k =
             let m = only-mean w (k .0) (k .1 .1 .1 .0) in
             (k .1 .0, (k .1 .1 .0, (no-none w (m .0), subst (λ r. OnePercent r (s .reference .price)) (m .1) (k .1 .1 .1 .1))))
@@ -106,7 +107,7 @@ trade-changed time price h = go (decided (stateOf s) Waiting)
     w : List Trade
     w = h .window ++ (record { at = time; price = price } ∷ [])
 
-    r : ℕ
+    r : Mean
     r = meanIn (figuresOf w)
 
     c : Come h e s
@@ -172,7 +173,7 @@ module _ (time participant bid offer : ℕ) (h : Whole) where
       plain : Plain quote
       plain = plainly quote letter-Q refl refl
 
-      old : ℕ
+      old : Mean
       old = quoted .reference .price
 
       leaving : LeavesLimit h participant bid offer → (h .window ≡ []) ⊎ (1 ≤ length (h .window)) → Changed h quote (begin-trading (if noTrades f then old else meanIn f) quoted)
@@ -212,13 +213,13 @@ message-changed (T time price) h = trade-changed time price h
 message-changed (Q time participant bid offer) h = quote-changed time participant bid offer h
 message-changed (O time participant price) h =
     let e : Event Message Notice = message (O time participant price) in
-    begun h e (plainly e letter-O refl refl) (at-time time (h .stock)) price (came h e letter-O (h .stock .quotes) refl refl) refl
+    begun h e (plainly e letter-O refl refl) (at-time time (h .stock)) (priceOf price) (came h e letter-O (h .stock .quotes) refl refl) (refl, refl)
 message-changed (P time participant) h =
     let e : Event Message Notice = message (P time participant) in
     paused h e (at-time time (h .stock)) (came h e letter-P (h .stock .quotes) refl refl) (inl refl) (not-among (letter-X ∷ mark-z ∷ mark-c ∷ []) _ letter-P refl refl) (λ k. k .1)
 message-changed (R time participant price) h =
     let e : Event Message Notice = message (R time participant price) in
-    begun h e (plainly e letter-R refl refl) (at-time time (h .stock)) price (came h e letter-R (h .stock .quotes) refl refl) refl
+    begun h e (plainly e letter-R refl refl) (at-time time (h .stock)) (priceOf price) (came h e letter-R (h .stock .quotes) refl refl) (refl, refl)
 message-changed (X time participant price) h =
     let e : Event Message Notice = message (X time participant price) in
     closed h e (at-time time (h .stock)) (came h e letter-X (h .stock .quotes) refl refl) (inl refl) (not-among (letter-P ∷ mark-x ∷ []) _ letter-X refl refl) (λ k. k .1)
@@ -247,18 +248,18 @@ module _ (h : Whole) (n : Notice) (v : CanHappen h (moment n)) where
   window-is = ap (λ h. h .window) happened
 
   -- what starts a reference, with that window
-  abbrev By : List Trade → ℕ → Type 0
+  abbrev By : List Trade → Mean → Type 0
   By w r =
       (m .mark ≡ mark-p and r ≡ h .stock .reference .price)
       or (m .mark ≡ mark-v and Test (h .stock .reference .hold) h w r)
       or (m .mark ≡ mark-f and IsMean w r)
       or (m .mark ≡ mark-h and Test 0 h w r)
 
-  starts : (r : ℕ) → By w r → Starts h e r
+  starts : (r : Mean) → By w r → Starts h e r
   starts r k = subst (λ w. By w r) (sym window-is) k
 
   -- only by what its mark does
-  unstarted : ((r : ℕ) → By w r → ⊥) → ¬ StartsOne h e
+  unstarted : ((r : Mean) → By w r → ⊥) → ¬ StartsOne h e
   unstarted n k = n (k .0) (subst (λ w. By w (k .0)) window-is (k .1))
 
   unmarked : (l : ℕ) → m .mark ≡ l → has (mark-p ∷ mark-v ∷ mark-f ∷ mark-h ∷ []) l ≡ false → ¬ StartsOne h e
@@ -266,7 +267,7 @@ module _ (h : Whole) (n : Notice) (v : CanHappen h (moment n)) where
 
   -- of v, and of h, whose hold has ended: the mean starts where the Test finds it
   by-test : (l : ℕ) → m .mark ≡ l → has (letter-X ∷ mark-z ∷ mark-c ∷ letter-P ∷ mark-x ∷ []) l ≡ false → has (letter-Q ∷ mark-w ∷ []) l ≡ false
-      → (t : Stock) → Come h e t → ((r : ℕ) → Tests w t r → By w r) → (¬ ((r : ℕ) × Tests w t r) → (r : ℕ) → By w r → ⊥)
+      → (t : Stock) → Come h e t → ((r : Mean) → Tests w t r → By w r) → (¬ ((r : Mean) × Tests w t r) → (r : Mean) → By w r → ⊥)
       → Changed h e (test (figuresOf w) t)
   by-test l is x z t c finds none = go (tested w t)
     where
@@ -314,7 +315,7 @@ module _ (h : Whole) (n : Notice) (v : CanHappen h (moment n)) where
   on-f k (inl z) = rw (if-true (noTrades (figuresOf w)) (not-early s) (begin-trading (meanIn (figuresOf w)) (not-early s)) (eq-eqb _ _ (no-count w z)))
       (same h e (plainly e mark-f k refl) (not-early s) (early-come k) (unlooked e mark-f k h refl (unstarted none)))
     where
-      none : (r : ℕ) → By w r → ⊥
+      none : (r : Mean) → By w r → ⊥
       none r (inl q) = omega (arith, q .0)
       none r (inr (inl q)) = omega (arith, q .0)
       none r (inr (inr (inl q))) = let o = only-mean w r (q .1) in let l : length w ≡ 0 = ap length z in omega (arith, o .0)
@@ -325,7 +326,7 @@ module _ (h : Whole) (n : Notice) (v : CanHappen h (moment n)) where
   on-v : m .mark ≡ mark-v → Changed h e (test (figuresOf w) s)
   on-v k = by-test mark-v k refl refl s (came h e mark-v (h .stock .quotes) k refl) (λ r t. inr (inl (k, t))) none
     where
-      none : ¬ ((r : ℕ) × Tests w s r) → (r : ℕ) → By w r → ⊥
+      none : ¬ ((r : Mean) × Tests w s r) → (r : Mean) → By w r → ⊥
       none n r (inl q) = omega (arith, q .0)
       none n r (inr (inl q)) = n (r, q .1)
       none n r (inr (inr (inl q))) = omega (arith, q .0)
@@ -334,7 +335,7 @@ module _ (h : Whole) (n : Notice) (v : CanHappen h (moment n)) where
   on-h : m .mark ≡ mark-h → Changed h e (test (figuresOf w) (hold-ended s))
   on-h k = by-test mark-h k refl refl (hold-ended s) (held-come k) (λ r t. inr (inr (inr (k, t)))) none
     where
-      none : ¬ ((r : ℕ) × Tests w (hold-ended s) r) → (r : ℕ) → By w r → ⊥
+      none : ¬ ((r : Mean) × Tests w (hold-ended s) r) → (r : Mean) → By w r → ⊥
       none n r (inl q) = omega (arith, q .0)
       none n r (inr (inl q)) = omega (arith, q .0)
       none n r (inr (inr (inl q))) = omega (arith, q .0)

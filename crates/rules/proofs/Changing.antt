@@ -12,6 +12,7 @@ use Rattle.forms.specs.Choice.{if_then_else_, allOf, anyOf}
 use Rattle.forms.specs.Words.{_and_, IsOneOf, Gives}
 use Rattle.forms.proofs.Choice.{if-true, if-false, all-not-here}
 use Rattle.forms.proofs.Decides.{Decides, words, is-true, is-false, either-way, by-le, skip, take, has, not-among, among}
+use Rattle.band.specs.declared.Mean.{Mean}
 use Rattle.rules.specs.Stock.{Whole, Trading, Limit, Paused, Late, stateOf, clockOf, is, with-quotes, at-time, with-reference, in-state, enter-limit, enter-pause}
 use Rattle.rules.specs.Quotes.{inForce, kTime, bandsIn, bestOf, flagged, atLimit, crossed}
 use Rattle.rules.specs.States.{look, begin-trading, begin-pause, shut}
@@ -139,7 +140,7 @@ module _ (h : Whole) (e : Event Message Notice) where
         }
 
     -- a reference starts, and the stock is in Trading
-    pub begun : (s : Stock) (r : ℕ) → Come h e s → Starts h e r → Changed h e (begin-trading r s)
+    pub begun : (s : Stock) (r : Mean) → Come h e s → Starts h e r → Changed h e (begin-trading r s)
     unfolding begin-trading
     begun s r c k = by-look s (record { price = r; start = clockOf s; hold = 1 }) c (inl (r, k)) (inl (k, (c .clock, refl)))
 

@@ -12,6 +12,7 @@ use Rattle.rules.proofs.Entries.{asked-grow, journals-grow}
 use Rattle.rules.proofs.Examples.{by-hand, as-printed, pauses-counted, at-edges}
 use Rattle.rules.proofs.Few.{few-moments}
 use Rattle.rules.proofs.FirstFive.{one-f}
+use Rattle.rules.proofs.FirstTrade.{first-trade}
 use Rattle.rules.proofs.Fits.{fit}
 use Rattle.rules.proofs.Held.{held-trades}
 use Rattle.rules.proofs.Last.{quotes, clock, last-quotes}
@@ -78,6 +79,7 @@ demands = record {
   held-trades = held-trades;
   last-quotes = last-quotes;
   reference-since = reference-since;
+  first-trade = first-trade;
   dates = dates;
   looked-at = looked-at;
   in-bands = in-bands;

@@ -4,14 +4,14 @@ use mathlib.Core.Path.{refl}
 use Rattle.forms.specs.Choice.{if_then_else_, allOf, anyOf}
 use Rattle.forms.specs.Checks.{first}
 use Rattle.forms.specs.Tables.{every}
-use Rattle.band.specs.Band.{percentOf, factorOf, spreadOf, cent, lowerOf, upperOf, bandsOf, meanOf, distance, movesOf}
+use Rattle.band.specs.Band.{percentOf, factorOf, spreadOf, cent, lowerOf, upperOf, bandsOf, printedOf, distance, movesOf}
 use Rattle.band.specs.Examples as arithmetic
 use Rattle.rules.specs.Stock.{total, oldest, figuresOf, staying}
 use Rattle.rules.specs.Quotes.{inForce, kTime, bandsIn, higher, lesser, bestBid, bestOffer, bidFlag, offerFlag, bestOf, flagged, crossed}
 use Rattle.rules.specs.States.{look, begin-trading, leave, test, begin-pause, shut}
 use Rattle.rules.specs.Moments.{momentTable, sooner, earliest, next, dueBy, pastAt, first-five, effect, windowAfter, come, fire}
 use Rattle.rules.specs.Messages.{taken, tradeRules, quoteRules, does, after}
-use Rattle.rules.specs.Numbers.{notPrice, badEnd, badSetup, badTimes, orNotSide, badQuotes, badReference, badTrade, see, badTrades, badStock, rubbish, outOfRange, notPrimary, outside, ownChecks, messageChecks, checks, tells, timeChecks, settleChecks, settles, readChecks, reads, answer, afterTelling, afterSettling, notice, tellAnswer, settleAnswer, nextAnswer, fresh, badShape, callChecks, orBadSetup, setupChecks, setsUp, setupAnswer}
+use Rattle.rules.specs.Numbers.{notPrice, badEnd, badSetup, badTimes, orNotSide, badQuotes, notReference, badReference, badTrade, see, badTrades, badStock, rubbish, outOfRange, notPrimary, outside, ownChecks, messageChecks, checks, tells, timeChecks, settleChecks, settles, readChecks, reads, answer, afterTelling, afterSettling, notice, tellAnswer, settleAnswer, nextAnswer, fresh, badShape, callChecks, orBadSetup, setupChecks, setsUp, setupAnswer}
 use Rattle.rules.specs.Machine.{of, numberIn, stepIn, happens}
 use Rattle.rules.specs.Book.{bookTells, bookSettles, bookNext}
 use Rattle.rules.specs.Readings.{limitPauses}
@@ -21,17 +21,17 @@ use Rattle.rules.specs.Edges.{asAnswered, edges}
 use Rattle.rules.specs.Demands.{ByHand, AsPrinted, PausesCounted, AtEdges}
 
 pub by-hand : ByHand
-unfolding if_then_else_ allOf anyOf every percentOf factorOf spreadOf cent lowerOf upperOf bandsOf meanOf distance movesOf arithmetic.right arithmetic.byHand staying inForce kTime bandsIn higher lesser bestBid bestOffer bidFlag offerFlag bestOf flagged crossed look test fresh right byHand
+unfolding if_then_else_ allOf anyOf every percentOf factorOf spreadOf cent lowerOf upperOf bandsOf printedOf distance movesOf arithmetic.right arithmetic.byHand staying inForce kTime bandsIn higher lesser bestBid bestOffer bidFlag offerFlag bestOf flagged crossed look test fresh right byHand
 by-hand = refl
 
 pub as-printed : AsPrinted
-unfolding if_then_else_ allOf anyOf first every percentOf factorOf spreadOf cent lowerOf upperOf bandsOf meanOf distance movesOf total oldest figuresOf staying inForce kTime bandsIn higher lesser bestBid bestOffer bidFlag offerFlag bestOf flagged crossed look begin-trading leave test begin-pause shut momentTable sooner earliest next dueBy pastAt first-five effect windowAfter come taken tradeRules quoteRules does after notPrice badEnd badSetup badTimes orNotSide badQuotes badReference badTrade see badTrades badStock rubbish outOfRange notPrimary outside ownChecks messageChecks checks tells timeChecks settleChecks settles answer afterTelling afterSettling tellAnswer settleAnswer fresh line callChecks badShape fire notice numberIn stepIn bookTells bookSettles printed sameNumbers sameLines asPrinted days
+unfolding if_then_else_ allOf anyOf first every percentOf factorOf spreadOf cent lowerOf upperOf bandsOf printedOf distance movesOf total oldest figuresOf staying inForce kTime bandsIn higher lesser bestBid bestOffer bidFlag offerFlag bestOf flagged crossed look begin-trading leave test begin-pause shut momentTable sooner earliest next dueBy pastAt first-five effect windowAfter come taken tradeRules quoteRules does after notPrice badEnd badSetup badTimes orNotSide badQuotes notReference badReference badTrade see badTrades badStock rubbish outOfRange notPrimary outside ownChecks messageChecks checks tells timeChecks settleChecks settles answer afterTelling afterSettling tellAnswer settleAnswer fresh line callChecks badShape fire notice numberIn stepIn bookTells bookSettles printed sameNumbers sameLines asPrinted days
 as-printed = refl
 
 pub at-edges : AtEdges
-unfolding if_then_else_ allOf anyOf first every percentOf factorOf spreadOf cent lowerOf upperOf bandsOf meanOf distance movesOf total oldest figuresOf staying inForce kTime bandsIn higher lesser bestBid bestOffer bidFlag offerFlag bestOf flagged crossed look begin-trading leave test begin-pause shut momentTable sooner earliest next dueBy pastAt first-five effect windowAfter come taken tradeRules quoteRules does after notPrice badEnd badSetup badTimes orNotSide badQuotes badReference badTrade see badTrades badStock rubbish outOfRange notPrimary outside ownChecks messageChecks checks tells timeChecks settleChecks settles readChecks reads answer afterTelling afterSettling tellAnswer settleAnswer nextAnswer fresh line sameNumbers badShape callChecks orBadSetup setupChecks setsUp setupAnswer fire notice bookTells bookSettles bookNext asAnswered edges
+unfolding if_then_else_ allOf anyOf first every percentOf factorOf spreadOf cent lowerOf upperOf bandsOf printedOf distance movesOf total oldest figuresOf staying inForce kTime bandsIn higher lesser bestBid bestOffer bidFlag offerFlag bestOf flagged crossed look begin-trading leave test begin-pause shut momentTable sooner earliest next dueBy pastAt first-five effect windowAfter come taken tradeRules quoteRules does after notPrice badEnd badSetup badTimes orNotSide badQuotes notReference badReference badTrade see badTrades badStock rubbish outOfRange notPrimary outside ownChecks messageChecks checks tells timeChecks settleChecks settles readChecks reads answer afterTelling afterSettling tellAnswer settleAnswer nextAnswer fresh line sameNumbers badShape callChecks orBadSetup setupChecks setsUp setupAnswer fire notice bookTells bookSettles bookNext asAnswered edges
 at-edges = refl
 
 pub pauses-counted : PausesCounted
-unfolding if_then_else_ allOf anyOf first every percentOf factorOf spreadOf cent lowerOf upperOf bandsOf meanOf distance movesOf total oldest figuresOf staying inForce kTime bandsIn higher lesser bestBid bestOffer bidFlag offerFlag bestOf flagged crossed look begin-trading leave test begin-pause shut momentTable sooner earliest next dueBy pastAt first-five effect windowAfter come taken tradeRules quoteRules does after notPrice badEnd badSetup badTimes orNotSide badQuotes badReference badTrade see badTrades badStock rubbish outOfRange notPrimary outside ownChecks messageChecks checks tells timeChecks settleChecks settles answer afterTelling afterSettling tellAnswer settleAnswer fresh callChecks badShape fire notice numberIn stepIn of happens limitPauses pausesBy reopened evenly
+unfolding if_then_else_ allOf anyOf first every percentOf factorOf spreadOf cent lowerOf upperOf bandsOf printedOf distance movesOf total oldest figuresOf staying inForce kTime bandsIn higher lesser bestBid bestOffer bidFlag offerFlag bestOf flagged crossed look begin-trading leave test begin-pause shut momentTable sooner earliest next dueBy pastAt first-five effect windowAfter come taken tradeRules quoteRules does after notPrice badEnd badSetup badTimes orNotSide badQuotes notReference badReference badTrade see badTrades badStock rubbish outOfRange notPrimary outside ownChecks messageChecks checks tells timeChecks settleChecks settles answer afterTelling afterSettling tellAnswer settleAnswer fresh callChecks badShape fire notice numberIn stepIn of happens limitPauses pausesBy reopened evenly
 pauses-counted = (refl, (refl, (refl, (refl, (refl, refl)))))

@@ -11,6 +11,7 @@ use lib.Dec.{eqb}
 use lib.ListN.{length}
 use Rattle.forms.specs.Choice.{if_then_else_, anyOf}
 use Rattle.forms.proofs.Choice.{if-arms, all-head, all-tail}
+use Rattle.band.specs.declared.Mean.{Mean}
 use Rattle.rules.specs.Stock.{Trade, Whole, Waiting, Trading, Limit, Paused, Late, stateOf, clockOf, is, at-time, in-state, enter-limit, enter-pause, not-early, refer-to, hold-ended, oldest, figuresOf, meanIn, staying}
 use Rattle.rules.specs.States.{look, begin-trading, test, begin-pause, shut}
 use Rattle.rules.specs.Moments.{limitLasts, first-five, effect, windowAfter, come, nextOf, fire}
@@ -119,7 +120,7 @@ test-spends n f s = if-arms (Spends 0 n s n) _ (λ t. refer-spends (eqb-true _ _
         omega (arith, look-spends n s′)
 
 -- k later than the limit states and pauses had come
-trading-spends : (k n price : ℕ) (s : Stock) → Ranges s → stateOf s ≤ Paused → k + pauseTime s ≤ clockOf s
+trading-spends : (k n : ℕ) (price : Mean) (s : Stock) → Ranges s → stateOf s ≤ Paused → k + pauseTime s ≤ clockOf s
     → Spends k n s n (begin-trading price s)
 unfolding begin-trading
 trading-spends k n price s r l p =

@@ -72,7 +72,7 @@ unfolding momentTable
 f-early h m = by-row h m (λ m. m .mark ≡ mark-f → 1 ≤ early (h .stock)) (omega (arith, all-then-some))
 
 -- while f is still to come, the earliest moment is not after 300,000
-f-comes : (h : Whole) → stateOf (h .stock) ≡ Waiting → (early (h .stock) ≡ 0 → ⊥) → IsMoment (nextOf h) × (nextOf h .time ≤ 300_000)
+pub f-comes : (h : Whole) → stateOf (h .stock) ≡ Waiting → (early (h .stock) ≡ 0 → ⊥) → IsMoment (nextOf h) × (nextOf h .time ≤ 300_000)
 unfolding next momentTable
 f-comes h w n =
     none-before (momentTable (figuresOf (h .window)) (h .stock)) (omega arith) .1 .1 .1 .1 .1 .1 .1 .0

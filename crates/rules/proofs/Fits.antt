@@ -13,14 +13,15 @@ use Rattle.forms.proofs.Choice.{if-true, if-false, if-arms}
 use Rattle.forms.proofs.Decides.{either-way, by-eq, listed, numbersIn, past}
 use Rattle.band.specs.Band.{percentOf, factorOf, bandsOf}
 use Rattle.band.specs.declared.Bands.{Bands}
-use Rattle.band.proofs.Laws.{ordered, upper-fits}
+use Rattle.band.proofs.Laws.{ordered, upper-fits, printed-most}
+use Rattle.band.specs.declared.Mean.{Mean}
 use Rattle.rules.specs.Stock.{Whole, Closed, stateOf}
 use Rattle.rules.specs.Quotes.{inForce, kTime, bandsIn, bestOf}
 use Rattle.rules.specs.Moments.{nextOf}
 use Rattle.rules.specs.Numbers.{tells, settles, reads, zeros, answer, notice, tellAnswer, settleAnswer, readAnswer, nextAnswer}
 use Rattle.rules.specs.Machine.{Every, Event, message, moment, becomes}
 use Rattle.rules.specs.Book.{machine}
-use Rattle.rules.specs.Words.{IsSide, moments, itsMoment, BadQuote, Rubbish, BidShown, OfferShown, refusals, settleRefusals, readRefusals, IsNumber, AnswerInRange, NoticeInRange, UpcomingInRange}
+use Rattle.rules.specs.Words.{IsSide, IsReference, moments, itsMoment, BadQuote, Rubbish, BidShown, OfferShown, refusals, settleRefusals, readRefusals, IsNumber, AnswerInRange, NoticeInRange, UpcomingInRange}
 use Rattle.rules.specs.Demands.{CanHappen, AnswersFit}
 use Rattle.rules.specs.declared.Stock.{Stock}
 use Rattle.rules.specs.declared.Side.{Side}
@@ -39,12 +40,13 @@ use Rattle.rules.proofs.Timely.{sound, until-last}
 -- ------------------------------------------------------------------ bands
 
 -- of a reference in range
-pub bands-fit : (s : Stock) → IsSide (s .reference .price) → (bandsIn s .lower ≤ 2_200_000_000) × (bandsIn s .upper ≤ 2_200_000_000)
+pub bands-fit : (s : Stock) → IsReference (s .reference .price) → (bandsIn s .lower ≤ 2_200_000_000) × (bandsIn s .upper ≤ 2_200_000_000)
 unfolding bandsIn bandsOf
 bands-fit s l = if-arms (λ (b : Bands). (b .lower ≤ 2_200_000_000) × (b .upper ≤ 2_200_000_000)) (inForce s)
     (λ _.
-    let upper = upper-fits (s .reference .price) 1 (s .setup .tier) (s .setup .close) (s .setup .leverage) (kTime s) (s .end) (omega arith) (omega arith) in
-    let lower = ordered (s .reference .price) 1 (percentOf (s .setup .tier) (s .setup .close)) (factorOf (s .setup .leverage) (kTime s) (s .end)) (omega arith) in
+    let m = s .reference .price in
+    let upper = upper-fits (m .sum) (m .count) (s .setup .tier) (s .setup .close) (s .setup .leverage) (kTime s) (s .end) (l .1 .1) in
+    let lower = ordered (m .sum) (m .count) (percentOf (s .setup .tier) (s .setup .close)) (factorOf (s .setup .leverage) (kTime s) (s .end)) in
     (omega arith, omega arith))
     (λ _. omega arith)
 
@@ -52,7 +54,7 @@ bands-fit s l = if-arms (λ (b : Bands). (b .lower ≤ 2_200_000_000) × (b .upp
 
 record InRange (s : Stock) : Type 0 where
   state : stateOf s ≤ Closed
-  price : IsSide (s .reference .price)
+  price : IsReference (s .reference .price)
   quotes : SaneQuotes (s .quotes)
 
 -- what holds for every number of a list holds for one of them
@@ -104,7 +106,7 @@ answer-fits n s l i =
     let offer = offer-fits s (bestOf s .offer) (i .quotes) (offer-shown s) in
     if-arms AnswerInRange _ {x = zeros n}
     (λ _. zeros-fit n l)
-    (λ _. (l, (i .state, (i .price, (b .0, (b .1, (bid .0, (bid .1, (offer .0, offer .1)))))))))
+    (λ _. (l, (i .state, (printed-most _ _ 999_999_999 (i .price .1 .1), (b .0, (b .1, (bid .0, (bid .1, (offer .0, offer .1)))))))))
 
 -- ------------------------------------------------------------------ each call
 

@@ -109,9 +109,9 @@ does-low : (m : Message) (h : Whole) → Low (h .stock) → Low (does m h .stock
 unfolding does
 does-low (T t a) h l = inl (trade-stands stands-low _ _ l)
 does-low (Q t i b o) h l = inl (quote-stands stands-low _ _ l)
-does-low (O t i a) h l = inl (trading-stands stands-low a _ l)
+does-low (O t i a) h l = inl (trading-stands stands-low _ _ l)
 does-low (P t i) h l = inl (pause-low _)
-does-low (R t i a) h l = inl (trading-stands stands-low a _ l)
+does-low (R t i a) h l = inl (trading-stands stands-low _ _ l)
 does-low (X t i a) h l = inr refl
 
 -- ------------------------------------------------------------------ the window and the trades that have joined

@@ -5,6 +5,7 @@ use Prim.Native.Nat.{ℕ}
 use mathlib.Core.Path.{_≡_, refl}
 use borrow.Author.Tests.{eqb-true}
 use Rattle.forms.proofs.Choice.{if-arms}
+use Rattle.band.specs.declared.Mean.{Mean}
 use Rattle.rules.specs.Stock.{Whole, Trading, clockOf, in-state, enter-limit, refer-to, not-early, hold-ended, at-time}
 use Rattle.rules.specs.States.{look, begin-trading, leave, test, begin-pause, shut}
 use Rattle.rules.specs.Moments.{mark-z, mark-w, mark-x, mark-p, mark-c, mark-v, mark-f, effect, first-five, come}
@@ -21,15 +22,15 @@ use Rattle.rules.specs.declared.Message.the-variants.{Trade as T, Quote 
 -- it stands when Limit is entered, when a reference starts, and when Trading begins with one
 pub record Stands (F : Stock → Type 0) : Type 0 where
   pub in-limit : (s : Stock) → F s → F (enter-limit s)
-  pub referred : (price : ℕ) (s : Stock) → F s → F (refer-to price s)
-  pub in-trading : (price : ℕ) (s : Stock) → F s → F (in-state Trading (refer-to price s))
+  pub referred : (price : Mean) (s : Stock) → F s → F (refer-to price s)
+  pub in-trading : (price : Mean) (s : Stock) → F s → F (in-state Trading (refer-to price s))
 
 module _ {F : Stock → Type 0} (k : Stands F) where
   pub look-stands : (s : Stock) → F s → F (look s)
   unfolding look
   look-stands s i = if-arms F _ (λ _. k .in-limit s i) (λ _. i)
 
-  pub trading-stands : (price : ℕ) (s : Stock) → F s → F (begin-trading price s)
+  pub trading-stands : (price : Mean) (s : Stock) → F s → F (begin-trading price s)
   unfolding begin-trading
   trading-stands price s i = look-stands _ (k .in-trading price s i)
 
@@ -59,9 +60,9 @@ module _ {F : Stock → Type 0} (k : Stands F) where
   unfolding does
   does-stands (T t a) h q p x i = trade-stands _ _ i
   does-stands (Q t j b o) h q p x i = quote-stands _ _ (q j b o)
-  does-stands (O t j a) h q p x i = trading-stands a _ i
+  does-stands (O t j a) h q p x i = trading-stands _ _ i
   does-stands (P t j) h q p x i = p
-  does-stands (R t j a) h q p x i = trading-stands a _ i
+  does-stands (R t j a) h q p x i = trading-stands _ _ i
   does-stands (X t j a) h q p x i = x
 
 -- ------------------------------------------------------------------ what a moment does, by its mark

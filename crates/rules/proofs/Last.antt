@@ -105,9 +105,9 @@ does-quoted : (m : Message) (h : Whole) (i : ℕ) (last : ℕ × ℕ) → i ≤ 
 unfolding does begin-pause shut
 does-quoted (T t a) h i last l k = trade-stands (stands-quotes (λ q. Quoted i q last)) _ _ k
 does-quoted (Q t j b o) h i last l k = quote-stands (stands-quotes (λ q. Quoted i q (quoteBy i last (message (Q t j b o))))) _ (with-quote j b o (h .stock)) (set-quoted i l t j b o (h .stock) last k)
-does-quoted (O t j a) h i last l k = trading-stands (stands-quotes (λ q. Quoted i q last)) a _ k
+does-quoted (O t j a) h i last l k = trading-stands (stands-quotes (λ q. Quoted i q last)) _ _ k
 does-quoted (P t j) h i last l k = k
-does-quoted (R t j a) h i last l k = trading-stands (stands-quotes (λ q. Quoted i q last)) a _ k
+does-quoted (R t j a) h i last l k = trading-stands (stands-quotes (λ q. Quoted i q last)) _ _ k
 does-quoted (X t j a) h i last l k = none-quoted i l
 
 effect-quoted : (mark : ℕ) (f : Figures) (s : Stock) (i : ℕ) (last : ℕ × ℕ) → i ≤ 15 → Quoted i (s .quotes) last
@@ -131,9 +131,9 @@ pub quotes-stay : (h : Whole) (e : Event Message Notice) → CanHappen h e → �
 unfolding after does begin-pause fire come notice
 quotes-stay h (message (T t a)) v c q = trade-stands (stands-quotes (λ q. q ≡ h .stock .quotes)) _ _ refl
 quotes-stay h (message (Q t i b o)) v c q = absurd (q refl)
-quotes-stay h (message (O t i a)) v c q = trading-stands (stands-quotes (λ q. q ≡ h .stock .quotes)) a _ refl
+quotes-stay h (message (O t i a)) v c q = trading-stands (stands-quotes (λ q. q ≡ h .stock .quotes)) _ _ refl
 quotes-stay h (message (P t i)) v c q = refl
-quotes-stay h (message (R t i a)) v c q = trading-stands (stands-quotes (λ q. q ≡ h .stock .quotes)) a _ refl
+quotes-stay h (message (R t i a)) v c q = trading-stands (stands-quotes (λ q. q ≡ h .stock .quotes)) _ _ refl
 quotes-stay h (message (X t i a)) v c q = absurd (c (inl refl))
 quotes-stay h (moment n) v c q =
     let k = stands-quotes (λ q. q ≡ h .stock .quotes) in

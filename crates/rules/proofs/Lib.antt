@@ -18,6 +18,7 @@ pub mod Few
 pub mod Stays
 pub mod Pauses
 pub mod FirstFive
+pub mod FirstTrade
 pub mod Trades
 pub mod PausedSince
 pub mod Resumes

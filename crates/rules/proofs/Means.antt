@@ -1,11 +1,11 @@
--- The mean of a window, in words.
+-- The exact mean of a window, in words.
 -- Assumes nothing.
 use Prim.Native.Nat.{ℕ, _+_, _≤_}
 use mathlib.Core.List.{List, [], _∷_, foldl}
-use mathlib.Core.Path.{_≡_, refl, sym}
+use mathlib.Core.Path.{_≡_, refl, sym, _∙_, ap₂}
 use native.Mathlib.Omega.{arith}
 use lib.ListN.{length}
-use Rattle.band.proofs.Words.{mean-is}
+use Rattle.band.specs.declared.Mean.{Mean}
 use Rattle.rules.specs.Stock.{Trade, total, figuresOf, meanIn}
 use Rattle.rules.specs.Words.{sumOf, IsMean}
 use Rattle.rules.specs.Demands.{MeanIs}
@@ -19,9 +19,9 @@ total-is w = omega (arith, total-from 0 w)
 
 pub mean : MeanIs
 unfolding figuresOf total
-mean w l = rw (total-is w) (mean-is (sumOf w) (length w) _ l .0 refl)
+mean w l = (l, (total-is w, refl))
 
 -- a mean is of a trade at least, and it is this one
-pub only-mean : (w : List Trade) (r : ℕ) → IsMean w r → (1 ≤ length w) × (r ≡ meanIn (figuresOf w))
+pub only-mean : (w : List Trade) (r : Mean) → IsMean w r → (1 ≤ length w) × (r ≡ meanIn (figuresOf w))
 unfolding figuresOf total
-only-mean w r k = let l : 1 ≤ length w = omega arith in (l, rw (total-is w) (sym (mean-is (sumOf w) (length w) r l .1 k)))
+only-mean w r (l, (s, c)) = (l, ap₂ (λ sum count. record { sum = sum; count = count }) (s ∙ sym (total-is w)) c)

@@ -3,19 +3,20 @@
 use Prim.Native.Nat.{ℕ, _≤_}
 use mathlib.Core.List.{List, []}
 use mathlib.Core.Logic.{inl, inr, ⊎-elim, ⊎-map}
-use mathlib.Core.Path.{_≡_, refl, sym, ap, _∙_}
+use mathlib.Core.Path.{_≡_, refl, sym, ap, _∙_, ap₂}
 use native.Mathlib.Omega.{arith}
 use lib.ListN.{length, getD}
 use lib.Seq.{ext-getD}
 use Rattle.forms.specs.Choice.{if_then_else_, anyOf}
 use Rattle.forms.specs.Words.{_or_, _and_, Gives}
 use Rattle.forms.proofs.Decides.{is-true, is-false, one-number, first-or-rest}
+use Rattle.band.specs.declared.Mean.{Mean}
 use Rattle.rules.specs.Stock.{Trade, Whole, Trading, Limit, stateOf, clockOf}
 use Rattle.rules.specs.Quotes.{inForce, kTime, bandsIn, bestOf, flagged, crossed}
 use Rattle.rules.specs.Moments.{mark-p}
 use Rattle.rules.specs.Machine.{Event, message, moment, dated, becomes}
 use Rattle.rules.specs.Book.{machine}
-use Rattle.rules.specs.Words.{IsMean, HasBands, AtBand}
+use Rattle.rules.specs.Words.{IsMean, IsPriceAlone, HasBands, AtBand}
 use Rattle.rules.specs.Changes.{IsNew, quoteBy, Quoted, QuotesAfter, Starts, ReferenceAfter, Enters, stateAfter, KeptAfter}
 use Rattle.rules.specs.Demands.{ChangesOnly}
 use Rattle.rules.specs.declared.Course.{Course}
@@ -43,11 +44,14 @@ one-new (inl a) (inr b) = absurd (b .0 (a .0))
 one-new (inr a) (inl b) = absurd (a .0 (b .0))
 one-new (inr a) (inr b) = a .1 ∙ sym (b .1)
 
-one-mean : (w : List Trade) (r r′ : ℕ) → IsMean w r → IsMean w r′ → r ≡ r′
+one-mean : (w : List Trade) (r r′ : Mean) → IsMean w r → IsMean w r′ → r ≡ r′
 one-mean w r r′ a b = only-mean w r a .1 ∙ sym (only-mean w r′ b .1)
 
+one-alone : (price : ℕ) (r r′ : Mean) → IsPriceAlone price r → IsPriceAlone price r′ → r ≡ r′
+one-alone price r r′ a b = ap₂ (λ sum count. record { sum = sum; count = count }) (a .0 ∙ sym (b .0)) (a .1 ∙ sym (b .1))
+
 -- p starts the old reference, any other moment the mean
-by-mean : (h : Whole) (n : Notice) (r : ℕ) → Starts h (moment n) r
+by-mean : (h : Whole) (n : Notice) (r : Mean) → Starts h (moment n) r
     → (n .mark ≡ mark-p and r ≡ h .stock .reference .price) or (¬ (n .mark ≡ mark-p) and IsMean (becomes machine h (moment n) .window) r)
 by-mean h n r (inl a) = inl a
 by-mean h n r (inr (inl a)) = inr ((λ z. omega (arith, a .0)), a .1 .1 .1 .0)
@@ -55,7 +59,7 @@ by-mean h n r (inr (inr (inl a))) = inr ((λ z. omega (arith, a .0)), a .1)
 by-mean h n r (inr (inr (inr a))) = inr ((λ z. omega (arith, a .0)), a .1 .1 .1 .0)
 
 -- an event starts one reference only
-one-start : (h : Whole) (e : Event Message Notice) (r r′ : ℕ) → Starts h e r → Starts h e r′ → r ≡ r′
+one-start : (h : Whole) (e : Event Message Notice) (r r′ : Mean) → Starts h e r → Starts h e r′ → r ≡ r′
 one-start h (message (T time price)) r r′ (inl a) (inl b) = one-mean (becomes machine h (message (T time price)) .window) r r′ (a .1 .1) (b .1 .1)
 one-start h (message (T time price)) r r′ (inl a) (inr b) = absurd (omega (arith, a .0, b .0))
 one-start h (message (T time price)) r r′ (inr a) (inl b) = absurd (omega (arith, a .0, b .0))
@@ -65,7 +69,7 @@ one-start h (message (Q time participant bid offer)) r r′ a b = go (a .1) (b .
     w : List Trade
     w = becomes machine h (message (Q time participant bid offer)) .window
 
-    apart : (r : ℕ) → IsMean w r → ¬ (w ≡ [])
+    apart : (r : Mean) → IsMean w r → ¬ (w ≡ [])
     apart r m z = let l : length w ≡ 0 = ap length z in omega (arith, only-mean w r m .0)
 
     go : (IsMean w r or (w ≡ [] and r ≡ h .stock .reference .price)) → (IsMean w r′ or (w ≡ [] and r′ ≡ h .stock .reference .price)) → r ≡ r′
@@ -73,9 +77,9 @@ one-start h (message (Q time participant bid offer)) r r′ a b = go (a .1) (b .
     go (inl m) (inr n) = absurd (apart r m (n .0))
     go (inr m) (inl n) = absurd (apart r′ n (m .0))
     go (inr m) (inr n) = m .1 ∙ sym (n .1)
-one-start h (message (O time participant price)) r r′ a b = a ∙ sym b
+one-start h (message (O time participant price)) r r′ a b = one-alone price r r′ a b
 one-start h (message (P time participant)) r r′ a b = absurd a
-one-start h (message (R time participant price)) r r′ a b = a ∙ sym b
+one-start h (message (R time participant price)) r r′ a b = one-alone price r r′ a b
 one-start h (message (X time participant price)) r r′ a b = absurd a
 one-start h (moment n) r r′ a b = go (by-mean h n r a) (by-mean h n r′ b)
   where

@@ -9,9 +9,10 @@ use lib.Dec.{ltb}
 use Rattle.forms.specs.Choice.{if_then_else_}
 use Rattle.forms.specs.Words.{_or_, Some}
 use Rattle.forms.proofs.Decides.{Decides, words, Stable, stable, reworded, never, always, or-some, some}
+use Rattle.band.specs.declared.Mean.{Mean}
 use Rattle.rules.specs.Stock.{Trade}
-use Rattle.rules.specs.Numbers.{notPrice, badEnd, badSetup, badTimes, orNotSide, badQuotes, badReference, badTrade, see, badTrades, badStock, outOfRange, badShape, orBadSetup}
-use Rattle.rules.specs.Words.{IsShape, IsPrice, IsSide, IsEnd, IsSetup, BadTime, BadQuote, BadReference, BadTrade, BadStock, OutOfRange}
+use Rattle.rules.specs.Numbers.{notPrice, badEnd, badSetup, badTimes, orNotSide, badQuotes, notReference, badReference, badTrade, see, badTrades, badStock, outOfRange, badShape, orBadSetup}
+use Rattle.rules.specs.Words.{IsShape, IsPrice, IsSide, IsEnd, IsSetup, BadTime, BadQuote, IsReference, BadReference, BadTrade, BadStock, OutOfRange}
 use Rattle.rules.specs.declared.Setup.{Setup}
 use Rattle.rules.specs.declared.Quotes.{Quotes}
 use Rattle.rules.specs.declared.Stock.{Stock}
@@ -50,6 +51,9 @@ in-price price = let s : Stable (IsPrice price) = search stable in s .undenied
 pub in-side : (price : ℕ) → ¬ ¬ IsSide price → IsSide price
 in-side price = let s : Stable (IsSide price) = search stable in s .undenied
 
+pub in-reference : (m : Mean) → ¬ ¬ IsReference m → IsReference m
+in-reference m = let s : Stable (IsReference m) = search stable in s .undenied
+
 pub in-end : (end : ℕ) → ¬ ¬ IsEnd end → IsEnd end
 in-end end = let s : Stable (IsEnd end) = search stable in s .undenied
 
@@ -75,9 +79,13 @@ quotes-are : (q : Quotes) → Decides (badQuotes q) (BadQuote q)
 unfolding badQuotes orNotSide
 quotes-are q = or-some _ _ side-is _ _ (q .offers) (some _ _ side-is (q .bids))
 
+mean-is : (m : Mean) → Decides (notReference m) (¬ IsReference m)
+unfolding notReference
+mean-is m = search words depth 20
+
 reference-is : (s : Stock) → Decides (badReference s) (BadReference s)
 unfolding badReference
-reference-is s = search words depth 20
+reference-is s = search (words, mean-is) depth 20
 
 pub stock-is : (s : Stock) → Decides (badStock s) (BadStock s)
 unfolding badStock

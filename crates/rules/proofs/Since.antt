@@ -3,9 +3,11 @@
 use Prim.Native.Nat.{ℕ, zero, suc, _≤_}
 use mathlib.Core.List.{[], _∷_}
 use mathlib.Core.Logic.{_⊎_, inl, inr}
-use mathlib.Core.Path.{_≡_, refl, sym, subst, _∙_}
+use mathlib.Core.Path.{_≡_, refl, sym, ap, subst, _∙_}
 use native.Mathlib.Omega.{arith}
 use Rattle.forms.specs.Words.{_or_}
+use Rattle.band.specs.Band.{noMean}
+use Rattle.band.specs.declared.Mean.{Mean}
 use Rattle.rules.specs.Stock.{Whole, Waiting, Late, Closed, stateOf}
 use Rattle.rules.specs.Moments.{mark-h}
 use Rattle.rules.specs.Numbers.{fresh}
@@ -48,12 +50,12 @@ lasted h (e ∷ es) v = go (reference h e (first-lawful h e es v)) (lasted (beco
         held (inl q) z = q .1
         held (inr q) z = q .1 ∙ z
 
-pub of-fields : {price start hold : ℕ} (r : Reference) → r .price ≡ price → r .start ≡ start → r .hold ≡ hold
+pub of-fields : {price : Mean} {start hold : ℕ} (r : Reference) → r .price ≡ price → r .start ≡ start → r .hold ≡ hold
     → r ≡ record { price = price; start = start; hold = hold }
 of-fields r p s h = rw (← p, ← s, ← h)
 
 -- the price of a reference that was started is one
-priced : (h : Whole) (es : Story) (price start : ℕ) → Lawful machine h es → StartedBy price start h es → 1 ≤ price
+priced : (h : Whole) (es : Story) (price : Mean) (start : ℕ) → Lawful machine h es → StartedBy price start h es → 1 ≤ price .count
 priced h (e ∷ es) price start v (inl k) = started-price h e price (first-lawful h e es v) (k .1) .0
 priced h (e ∷ es) price start v (inr k) = priced (becomes machine h e) es price start (rest-lawful h e es v) k
 
@@ -66,7 +68,7 @@ none-waiting h (e ∷ es) v w =
     ((j .0, k .0), j .1)
 
 -- and then none is there
-started-once : (h : Whole) (es : Story) (price start : ℕ) → NoneStarted h es → ¬ StartedBy price start h es
+started-once : (h : Whole) (es : Story) (price : Mean) (start : ℕ) → NoneStarted h es → ¬ StartedBy price start h es
 started-once h (e ∷ es) price start n (inl k) = n .0 (price, k .1)
 started-once h (e ∷ es) price start n (inr k) = started-once (becomes machine h e) es price start (n .1) k
 
@@ -88,14 +90,14 @@ reference-since end u es a = go (lasted (fresh end u) es (a .lawful))
     sane : Sane (fresh end u)
     sane = fresh-sane end u (a .end-ok) (a .setup-ok)
 
-    idle : r .price ≡ 0 → stateOf s ≡ Waiting or stateOf s ≡ Closed
+    idle : r .price .count ≡ 0 → stateOf s ≡ Waiting or stateOf s ≡ Closed
     idle z = let i = sane-left es (fresh end u) sane (a .lawful) .stock in
         first-or-last (stateOf s) (i .ranges .state-by) (λ j k. let p = i .priced j k in omega arith)
 
     go : Lasted r (fresh end u) es
-        → (NoneStarted (fresh end u) es × (r ≡ record { price = 0; start = 0; hold = 0 }) × (stateOf s ≡ Waiting or stateOf s ≡ Closed))
-        ⊎ (StartedBy (r .price) (r .start) (fresh end u) es × (1 ≤ r .price) × ¬ (stateOf s ≡ Waiting))
-    go (inl k) = inl (k .0, of-fields r (k .1 .0) (k .1 .1) (k .1 .2 refl), idle (k .1 .0))
+        → (NoneStarted (fresh end u) es × (r ≡ record { price = noMean; start = 0; hold = 0 }) × (stateOf s ≡ Waiting or stateOf s ≡ Closed))
+        ⊎ (StartedBy (r .price) (r .start) (fresh end u) es × (1 ≤ r .price .count) × ¬ (stateOf s ≡ Waiting))
+    go (inl k) = inl (k .0, of-fields r (k .1 .0) (k .1 .1) (k .1 .2 refl), idle (ap (λ m. m .count) (k .1 .0)))
     go (inr k) = inr (
       k,
       priced (fresh end u) es (r .price) (r .start) (a .lawful) k,

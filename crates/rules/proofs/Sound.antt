@@ -10,13 +10,14 @@ use lib.ListN.{length, getD, length-append, replicate}
 use Rattle.forms.specs.Words.{_or_, Some}
 use Rattle.forms.proofs.Choice.{if-arms}
 use Rattle.forms.proofs.Decides.{eq-stable, not-among, past}
+use Rattle.band.specs.declared.Mean.{Mean}
 use Rattle.rules.specs.Stock.{Trade, Whole, Late, Closed, stateOf, clockOf, staying}
 use Rattle.rules.specs.Moments.{mark-x, fire}
 use Rattle.rules.specs.Messages.{letter-T, letter-Q, letter-O, letter-P, letter-R, letter-X}
 use Rattle.rules.specs.Numbers.{settles, notice, fresh}
 use Rattle.rules.specs.Machine.{Every, Event, message, moment, dated, Lawful, becomes, left}
 use Rattle.rules.specs.Book.{machine, Story}
-use Rattle.rules.specs.Words.{IsPrice, IsSide, IsEnd, IsSetup, sumOf, IsMean, Coming, moments, IsFirst, BadTime, BadReference, BadStock, Rubbish, itsMoment}
+use Rattle.rules.specs.Words.{IsPrice, IsSide, IsEnd, IsSetup, sumOf, IsMean, IsPriceAlone, Coming, moments, IsFirst, BadTime, IsReference, BadReference, BadStock, Rubbish, itsMoment}
 use Rattle.rules.specs.Changes.{IsNew, joins, recent, quoteBy, Quoted, TradesAfter, Starts, StartsOne, ReferenceAfter, StartsPause, Looks, KeptAfter}
 use Rattle.rules.specs.Demands.{leaves, CanHappen, NeverRubbish}
 use Rattle.rules.specs.declared.Setup.{Setup}
@@ -32,7 +33,7 @@ use Rattle.rules.proofs.Coming.{moments-are}
 use Rattle.rules.proofs.Events.{first-lawful, rest-lawful, event-forward}
 use Rattle.rules.proofs.Last.{quotes}
 use Rattle.rules.proofs.Numbers.{taken-words}
-use Rattle.rules.proofs.Ranges.{in-price, in-side}
+use Rattle.rules.proofs.Ranges.{in-price, in-side, in-reference}
 use Rattle.rules.proofs.Timely.{Timely, sound, timely-left, fresh-timely}
 use Rattle.rules.proofs.Window.{InOrder, wider-in-order, joined-in-order, trades-clean, window-in-order, recent-in-order, trades as trades-are}
 
@@ -48,7 +49,7 @@ pub record Ranges (s : Stock) : Type 0 where
   pub start-by : s .reference .start ≤ clockOf s
   pub entry-by : s .course .entry ≤ clockOf s
   pub pause-by : s .course .pause ≤ clockOf s
-  pub price-by : IsSide (s .reference .price)
+  pub price-by : IsReference (s .reference .price)
 
 pub record SaneQuotes (q : Quotes) : Type 0 where
   pub sixteen : (length (q .bids) ≡ 16) × (length (q .offers) ≡ 16)
@@ -56,7 +57,7 @@ pub record SaneQuotes (q : Quotes) : Type 0 where
 
 pub record SaneStock (s : Stock) : Type 0 where
   pub ranges : Ranges s
-  pub priced : 1 ≤ stateOf s → stateOf s ≤ Late → 1 ≤ s .reference .price
+  pub priced : 1 ≤ stateOf s → stateOf s ≤ Late → 1 ≤ s .reference .price .count
   pub quotes : SaneQuotes (s .quotes)
 
 pub record Sane (h : Whole) : Type 0 where
@@ -64,6 +65,10 @@ pub record Sane (h : Whole) : Type 0 where
   pub end-ok : IsEnd (h .stock .end)
   pub stock : SaneStock (h .stock)
   pub window : SaneWindow (clockOf (h .stock)) (h .window)
+
+-- a reference that is there: of one price at least
+abbrev Priced : Mean → Type 0
+Priced m = (1 ≤ m .count) × IsReference m
 
 -- ------------------------------------------------------------------ what check 1 lets pass is in range
 
@@ -74,12 +79,12 @@ module _ (h : Whole) (n : ¬ Rubbish h) where
   pub window-found : SaneWindow (clockOf (h .stock)) (h .window)
   window-found = let few : ¬ (512 < length (h .window)) = λ l. n (inr (inl l)) in record { count = omega arith; in-order = window-in-order h n }
 
-  pub price-found : IsSide (h .stock .reference .price)
-  price-found = in-side _ (λ k. n (inl (inr (inr (inr (inr (inr (inl (inl k)))))))))
+  pub price-found : IsReference (h .stock .reference .price)
+  price-found = in-reference _ (λ k. n (inl (inr (inr (inr (inr (inr (inl (inl k)))))))))
 
-  own-price : Live (h .stock) → IsPrice (h .stock .reference .price)
+  own-price : Live (h .stock) → Priced (h .stock .reference .price)
   own-price l =
-      let some : ¬ (h .stock .reference .price ≡ 0) = λ z. n (inl (inr (inr (inr (inr (inr (inl (inr (z, l))))))))) in
+      let some : ¬ (h .stock .reference .price .count ≡ 0) = λ z. n (inl (inr (inr (inr (inr (inr (inl (inr (z, l))))))))) in
       (omega arith, price-found)
 
 -- ------------------------------------------------------------------ the window
@@ -100,12 +105,12 @@ sums : (u c : ℕ) (w : List Trade) → InOrder u c w → (length w ≤ sumOf w)
 sums u c [] o = omega arith
 sums u c (t ∷ w) o = let rest = sums (t .at) c w (o .3) in let p = o .0 in omega arith
 
--- the mean of prices is a price
-mean-priced : (c r : ℕ) (w : List Trade) → SaneWindow c w → IsMean w r → IsPrice r
-mean-priced c zero w i k = let s = sums 0 c w (i .in-order) in absurd (omega arith)
-mean-priced c (suc r) w i k =
-    let s = sums 0 c w (i .in-order) in
-    (omega arith, in-side (suc r) (λ n. let l : 999_999_999 ≤ r = omega arith in omega (arith, mul-le-mul-right (length w) l)))
+-- the mean of up to 512 prices is a reference, and so is one price
+mean-priced : (c : ℕ) (r : Mean) (w : List Trade) → SaneWindow c w → IsMean w r → Priced r
+mean-priced c r w i (l, (s, n)) = let k = sums 0 c w (i .in-order) in let few = i .count in (omega arith, (omega arith, (omega arith, omega arith)))
+
+alone-priced : (price : ℕ) (r : Mean) → IsPrice price → IsPriceAlone price r → Priced r
+alone-priced price r p (s, n) = (omega arith, (omega arith, (omega (arith, p .0), omega (arith, p .1))))
 
 -- ------------------------------------------------------------------ an event keeps the window in range
 
@@ -153,7 +158,7 @@ window-sane h e v = go (trades-are h e v)
     go (inl (_, q)) = subst (SaneWindow t) (sym q) recent-sane
     go (inr (_, q)) = subst (SaneWindow t) (sym q) (joins-sane h e v)
 
--- ------------------------------------------------------------------ and the reference, which is a price in states 1 to 4
+-- ------------------------------------------------------------------ and the reference, which is there in states 1 to 4
 
 -- each row of the moment's mark, where it is still to come, has A
 abbrev pub Each : Type 0 → Moment → List Coming → Type 0
@@ -165,25 +170,25 @@ by-mark A m (c ∷ cs) (inl f) k = k .0 (f .1 .0) (f .0)
 by-mark A m (c ∷ cs) (inr f) k = by-mark A m cs (f .1) (k .1)
 
 -- a mean of the window that the event leaves, a message's own price, or the old one: a Limit is left by Q, and p comes in Paused
-pub started-price : (h : Whole) (e : Event Message Notice) (r : ℕ) → CanHappen h e → Starts h e r → IsPrice r
+pub started-price : (h : Whole) (e : Event Message Notice) (r : Mean) → CanHappen h e → Starts h e r → Priced r
 started-price h (message (T time price)) r v (inl k) = mean-priced _ r _ (window-sane h (message (T time price)) v) (k .1 .1)
 started-price h (message (T time price)) r v (inr k) = mean-priced _ r _ (window-sane h (message (T time price)) v) (k .1 .1 .0)
 started-price h (message (Q time participant bid offer)) r v (l, inl k) = mean-priced _ r _ (window-sane h (message (Q time participant bid offer)) v) k
 started-price h (message (Q time participant bid offer)) r v (l, inr k) = let s = l .0 in rw (k .1) (own-price h (sound h (message (Q time participant bid offer)) v) (omega arith))
-started-price h (message (O time participant price)) r v q = rw q (opening-price price (taken-words (O time participant price) h (v .0) .in-range))
-started-price h (message (R time participant price)) r v q = rw q (opening-price price (taken-words (R time participant price) h (v .0) .in-range))
+started-price h (message (O time participant price)) r v q = alone-priced price r (opening-price price (taken-words (O time participant price) h (v .0) .in-range)) q
+started-price h (message (R time participant price)) r v q = alone-priced price r (opening-price price (taken-words (R time participant price) h (v .0) .in-range)) q
 started-price h (moment n) r v (inl (m, q)) = rw q (own-price h (sound h (moment n) v) (by-mark _ (itsMoment n) (moments h) (moments-are h n v) (omega arith)))
 started-price h (moment n) r v (inr (inl k)) = mean-priced _ r _ (window-sane h (moment n) v) (k .1 .1 .1 .0)
 started-price h (moment n) r v (inr (inr (inl k))) = mean-priced _ r _ (window-sane h (moment n) v) (k .1)
 started-price h (moment n) r v (inr (inr (inr k))) = mean-priced _ r _ (window-sane h (moment n) v) (k .1 .1 .1 .0)
 
 -- so a reference is in range after every event
-pub price-after : (h : Whole) (e : Event Message Notice) → CanHappen h e → IsSide (becomes machine h e .stock .reference .price)
+pub price-after : (h : Whole) (e : Event Message Notice) → CanHappen h e → IsReference (becomes machine h e .stock .reference .price)
 price-after h e v = go (reference h e v)
   where
-    go : ReferenceAfter h e (becomes machine h e .stock) → IsSide (becomes machine h e .stock .reference .price)
+    go : ReferenceAfter h e (becomes machine h e .stock) → IsReference (becomes machine h e .stock .reference .price)
     go (inl (s, _)) = started-price h e _ v s .1
-    go (inr (_, (p, _))) = omega (arith, p, price-found h (sound h e v))
+    go (inr (_, (p, _))) = subst IsReference (sym p) (price-found h (sound h e v))
 
 -- P comes in Trading, and x in Limit
 pauses-live : (h : Whole) (e : Event Message Notice) → CanHappen h e → StartsPause e → Live (h .stock)
@@ -313,11 +318,11 @@ event-sane h e v i = let f = from-reference (reference h e v) in record {
     on = omega (arith, k .0, event-forward h e [] v)
 
     from-reference : ReferenceAfter h e (h′ .stock)
-        → (h′ .stock .reference .start ≤ clockOf (h′ .stock)) × (Live (h′ .stock) → 1 ≤ h′ .stock .reference .price)
+        → (h′ .stock .reference .start ≤ clockOf (h′ .stock)) × (Live (h′ .stock) → 1 ≤ h′ .stock .reference .price .count)
     from-reference (inl (s, (d, _))) = (omega (arith, d, k .0), λ _. started-price h e _ v s .0)
     from-reference (inr (n, (p, (d, _)))) = (
       omega (arith, d, r .start-by, on),
-      λ l. let w = state .1 n l in omega (arith, p, i .stock .priced (w .0) (w .1)),
+      λ l. let w = state .1 n l in subst (λ m. 1 ≤ m .count) (sym p) (i .stock .priced (w .0) (w .1)),
     )
 
 pub moment-sane : (time : ℕ) (h : Whole) → Sane h → settles time h ≡ 0 → Sane (fire h)

@@ -13,12 +13,13 @@ use lib.ListN.{length, getD, set}
 use Rattle.forms.specs.Choice.{if_then_else_, anyOf}
 use Rattle.forms.specs.Words.{_or_, _and_, IsOneOf, Number, Otherwise}
 use Rattle.forms.specs.Words.Number.{_for_}
+use Rattle.band.specs.declared.Mean.{Mean}
 use Rattle.rules.specs.Stock.{Trade, Whole, Waiting, Trading, Limit, Paused, Late, Closed, stateOf, with-quotes}
 use Rattle.rules.specs.Moments.{mark-z, mark-w, mark-x, mark-p, mark-c, mark-v, mark-f, mark-h}
 use Rattle.rules.specs.Messages.{letter-T, letter-Q, letter-O, letter-P, letter-R, letter-X}
 use Rattle.rules.specs.Machine.{Event, message, moment, becomes}
 use Rattle.rules.specs.Book.{machine}
-use Rattle.rules.specs.Words.{IsMean, OnePercent, AtBand, Crossing, timeIn}
+use Rattle.rules.specs.Words.{IsMean, IsPriceAlone, OnePercent, AtBand, Crossing, timeIn}
 use Rattle.rules.specs.declared.Setup.{Setup}
 use Rattle.rules.specs.declared.Quotes.{Quotes}
 use Rattle.rules.specs.declared.Stock.{Stock}
@@ -102,21 +103,21 @@ LeavesLimit h participant bid offer =
     stateOf (h .stock) ≡ Limit and ¬ AtBand (with-quotes (quotesWith (h .stock .quotes) participant bid offer) (h .stock))
 
 -- the Test finds that the mean of the window w is to be the reference: in Trading, with the hold ended (0) and the window not empty
-abbrev pub Test : ℕ → Whole → List Trade → ℕ → Type 0
+abbrev pub Test : ℕ → Whole → List Trade → Mean → Type 0
 Test hold h w mean = stateOf (h .stock) ≡ Trading and hold ≡ 0 and IsMean w mean and OnePercent mean (h .stock .reference .price)
 
--- the event starts a reference of that price: O and R take their own price, p and the end of a Limit with no trade held keep the old price, and
--- the others take the mean of the window that the event leaves
-abbrev pub Starts : Whole → Event Message Notice → ℕ → Type 0
+-- the event starts a reference of that exact price: O and R take their own price, p and the end of a Limit with no trade held keep the old one,
+-- both numbers of it, and the others take the mean of the window that the event leaves
+abbrev pub Starts : Whole → Event Message Notice → Mean → Type 0
 Starts h (message (T time price)) r =
     let w = becomes machine h (message (T time price)) .window in
     (stateOf (h .stock) ≡ Waiting and 300_000 ≤ time and IsMean w r) or Test (h .stock .reference .hold) h w r
 Starts h (message (Q time participant bid offer)) r =
     let w = becomes machine h (message (Q time participant bid offer)) .window in
     LeavesLimit h participant bid offer and (IsMean w r or (w ≡ [] and r ≡ h .stock .reference .price))
-Starts h (message (O time participant price)) r = r ≡ price
+Starts h (message (O time participant price)) r = IsPriceAlone price r
 Starts h (message (P time participant)) r = ⊥
-Starts h (message (R time participant price)) r = r ≡ price
+Starts h (message (R time participant price)) r = IsPriceAlone price r
 Starts h (message (X time participant price)) r = ⊥
 Starts h (moment n) r =
     let mark = n .mark in
@@ -128,7 +129,7 @@ Starts h (moment n) r =
 
 -- the event starts a reference
 abbrev pub StartsOne : Whole → Event Message Notice → Type 0
-StartsOne h e = (r : ℕ) × Starts h e r
+StartsOne h e = (r : Mean) × Starts h e r
 
 -- a new reference has its price, the event's date and a new hold; otherwise the reference is as before, except that h ends the hold
 abbrev pub ReferenceAfter : Whole → Event Message Notice → Stock → Type 0

@@ -353,6 +353,28 @@ theTest = record {
       [];
 }
 
+-- document 02's own example (R-3): trades of 100,999 and 101,000 leave the reference at 100,000; a third, of 101,001, makes the mean 101,000
+abbrev pub theExactMean : Day
+theExactMean = record {
+  end = 23_400_000;
+  setup = listed 2;
+  calls =
+      tell (O 0 2 100_000) ∷
+      settle 300_000 ∷ settle 300_000 ∷
+      tell (T 300_000 100_999) ∷
+      tell (T 300_001 101_000) ∷
+      tell (T 300_002 101_001) ∷
+      [];
+  prints =
+      (0 ∷ letter-O ∷ 0 ∷ 1 ∷ 100_000 ∷ 80_000 ∷ 120_000 ∷ 0 ∷ 0 ∷ 0 ∷ 0 ∷ []) ∷
+      (30_000 ∷ mark-h ∷ 0 ∷ 1 ∷ 100_000 ∷ 80_000 ∷ 120_000 ∷ 0 ∷ 0 ∷ 0 ∷ 0 ∷ []) ∷
+      (300_000 ∷ mark-v ∷ 0 ∷ 1 ∷ 100_000 ∷ 80_000 ∷ 120_000 ∷ 0 ∷ 0 ∷ 0 ∷ 0 ∷ []) ∷
+      (300_000 ∷ letter-T ∷ 0 ∷ 1 ∷ 100_000 ∷ 80_000 ∷ 120_000 ∷ 0 ∷ 0 ∷ 0 ∷ 0 ∷ []) ∷
+      (300_001 ∷ letter-T ∷ 0 ∷ 1 ∷ 100_000 ∷ 80_000 ∷ 120_000 ∷ 0 ∷ 0 ∷ 0 ∷ 0 ∷ []) ∷
+      (300_002 ∷ letter-T ∷ 0 ∷ 1 ∷ 101_000 ∷ 80_800 ∷ 121_200 ∷ 0 ∷ 0 ∷ 0 ∷ 0 ∷ []) ∷
+      [];
+}
+
 -- four moments at 900,000: w, x, v, h
 abbrev pub theTies : Day
 theTies = record {
@@ -548,7 +570,7 @@ soonestAgain = record {
 unfoldable pub days : List Day
 days =
     theDay ∷ aLimit ∷ byTheClose ∷ noOpening ∷ oneMillisecond ∷ aLatePause ∷ aPause ∷ aStraddle ∷
-    theFlags ∷ openedByF ∷ theTest ∷ theTies ∷ narrowed ∷ limitAgain ∷ theLooks ∷ offerStraddle ∷ refusedPauses ∷
+    theFlags ∷ openedByF ∷ theTest ∷ theExactMean ∷ theTies ∷ narrowed ∷ limitAgain ∷ theLooks ∷ offerStraddle ∷ refusedPauses ∷
     soonestAgain ∷ []
 
 -- ------------------------------------------------------------------ limit pauses (R-2)

@@ -52,7 +52,7 @@ use Rattle.rules.specs.Messages.{after}
 use Rattle.rules.specs.Numbers.{tells, settles, reads, setsUp, afterTelling, afterSettling, notice, tellAnswer, settleAnswer, readAnswer, setupAnswer, fresh, nextAnswer}
 use Rattle.rules.specs.Machine.{Machine, MachineLaws, Alike, Call, tell, settle, On, of, Every, journal, IsJournal, Event, message, moment, messages, notices, Lawful, becomes, left, Asked, numberOf, called, Calls, stock, numberIn, stepIn}
 use Rattle.rules.specs.Book.{machine, Story, Accepted, noSetup, blank, book, now, story, askedOf, journalOf, Settled, bookTells, bookSettles, bookReads, bookNext}
-use Rattle.rules.specs.Words.{IsShape, IsEnd, IsSetup, IsMean, HasBands, AtBand, Crossing, moments, IsFirst, Rubbish, refusals, ReachesTable, WrongState, TooLate, NoStraddle, settleRefusals, readRefusals, bookRefusals, setupRefusals, ShowsNothing, Shows, IsTime, itsMoment, AnswerInRange, NoticeInRange, UpcomingInRange, ShowsNone, ShowsNext}
+use Rattle.rules.specs.Words.{IsShape, IsEnd, IsSetup, IsMean, IsPriceAlone, HasBands, AtBand, Crossing, moments, IsFirst, Rubbish, refusals, ReachesTable, WrongState, TooLate, NoStraddle, settleRefusals, readRefusals, bookRefusals, setupRefusals, ShowsNothing, Shows, IsTime, itsMoment, AnswerInRange, NoticeInRange, UpcomingInRange, ShowsNone, ShowsNext}
 use Rattle.rules.specs.Changes.{recent, TradesAfter, Quoted, QuotesAfter, ReferenceAfter, EndsPause, stateAfter, KeptAfter}
 use Rattle.rules.specs.Readings.{joined, lastQuote, NoneStarted, StartedBy, lastDate, limitPauses, countOf, MomentsOnly}
 use Rattle.rules.specs.Pauses.{before, PauseAt, LimitSince, PausedSince}
@@ -208,7 +208,7 @@ abbrev pub FreshIs : Type 0
 FreshIs = (end : ℕ) (u : Setup) → let h = fresh end u in let s = h .stock in
     s .setup ≡ u and s .end ≡ end
     and stateOf s ≡ Waiting and clockOf s ≡ 0 and s .course .entry ≡ 0 and s .course .pause ≡ 0 and s .course .early ≡ 1
-    and s .reference ≡ record { price = 0; start = 0; hold = 0 }
+    and s .reference ≡ record { price = record { sum = 0; count = 0 }; start = 0; hold = 0 }
     and s .quotes .bids ≡ replicate 16 0 and s .quotes .offers ≡ replicate 16 0
     and h .window ≡ []
 
@@ -369,7 +369,7 @@ ChangesOnly = (h : Whole) (e : Event Message Notice) → CanHappen h e → lengt
     → Gives (stateAfter h e (h′ .stock)) (stateOf (h′ .stock)) → KeptAfter h e (h′ .stock)
     → h′ ≡ becomes machine h e
 
--- The mean of a window in the rules is that of "Band arithmetic".
+-- The mean of a window in the rules is its exact mean.
 abbrev pub MeanIs : Type 0
 MeanIs = (w : List Trade) → 1 ≤ length w → IsMean w (meanIn (figuresOf w))
 
@@ -394,13 +394,19 @@ LastQuotes = (end : ℕ) (u : Setup) (es : Story) → Allowed end u es
     → (i : ℕ) → i ≤ 15 → Quoted i (leaves end u es .stock .quotes) (lastQuote i (0, 0) es)
 
 -- Before an event starts the first reference there is none, and the stock is Waiting or Closed. From then on the reference is the one that
--- was started last, by its price, dated by that event, and the stock is not Waiting.
+-- was started last, by its exact price, dated by that event, and the stock is not Waiting.
 abbrev pub ReferenceSince : Type 0
 ReferenceSince = (end : ℕ) (u : Setup) (es : Story) → Allowed end u es
     → let s = leaves end u es .stock in
     let r = s .reference in
-    (NoneStarted (fresh end u) es × (r ≡ record { price = 0; start = 0; hold = 0 }) × (stateOf s ≡ Waiting or stateOf s ≡ Closed))
-    ⊎ (StartedBy (r .price) (r .start) (fresh end u) es × (1 ≤ r .price) × ¬ (stateOf s ≡ Waiting))
+    (NoneStarted (fresh end u) es × (r ≡ record { price = record { sum = 0; count = 0 }; start = 0; hold = 0 }) × (stateOf s ≡ Waiting or stateOf s ≡ Closed))
+    ⊎ (StartedBy (r .price) (r .start) (fresh end u) es × (1 ≤ r .price .count) × ¬ (stateOf s ≡ Waiting))
+
+-- The T that ends Waiting makes a reference of its own price with count 1: no other trade is held then (R-3).
+abbrev pub FirstTrade : Type 0
+FirstTrade = (end : ℕ) (u : Setup) (es : Story) → Allowed end u es → let h = leaves end u es in stateOf (h .stock) ≡ Waiting
+    → (time price : ℕ) → tells (T time price) h ≡ 0 → 300_000 ≤ time
+    → IsPriceAlone price (becomes machine h (message (T time price)) .stock .reference .price)
 
 -- In Limit and in a pause, the kept date is that of the event that began it.
 abbrev pub DatesAre : Type 0
@@ -552,6 +558,7 @@ pub record Demands : Type 1 where
   pub held-trades : HeldTrades
   pub last-quotes : LastQuotes
   pub reference-since : ReferenceSince
+  pub first-trade : FirstTrade
   pub dates : DatesAre
   pub looked-at : QuotesLookedAt
   pub in-bands : TradesInBands

@@ -6,7 +6,9 @@ use mathlib.Core.Bool.{Bool, not}
 use mathlib.Core.List.{List, [], _∷_}
 use lib.Dec.{eqb}
 use lib.ListN.{length, set, replicate}
+use Rattle.forms.specs.Choice.{if_then_else_}
 use Rattle.forms.specs.Checks.{first}
+use Rattle.band.specs.Band.{noMean, priceOf}
 use Rattle.rules.specs.Stock.{Waiting, Paused, Late, stateOf, Trade, Whole, Trading}
 use Rattle.rules.specs.States.{noQuotes}
 use Rattle.rules.specs.Moments.{mark-z, mark-p, mark-c, mark-h, mark-w, mark-x, mark-v, mark-f}
@@ -34,8 +36,17 @@ sound state clock early entry pause reference quotes w = record {
   window = w;
 }
 
+-- a reference that is a price, or none where that is 0
 abbrev referring : ℕ → ℕ → ℕ → Reference
-referring price start hold = record { price = price; start = start; hold = hold }
+referring price start hold = record { price = if eqb price 0 then noMean else priceOf price; start = start; hold = hold }
+
+-- a reference that is a mean, started at 990,000, in its hold
+abbrev mean-of : (sum count : ℕ) → Reference
+mean-of sum count = record { price = record { sum = sum; count = count }; start = 990_000; hold = 1 }
+
+-- the same with the hold ended
+abbrev old-mean-of : (sum count : ℕ) → Reference
+old-mean-of sum count = record { price = record { sum = sum; count = count }; start = 0; hold = 0 }
 
 abbrev trade : ℕ → ℕ → Trade
 trade at price = record { at = at; price = price }
@@ -84,13 +95,17 @@ at-band r = sound 1 1_000_000 0 0 0 r (record { bids = noQuotes .bids; offers = 
 abbrev set-up-as : ℕ → Setup → Whole
 set-up-as end u = record { stock = record { setup = u; end = end; course = fresh end u .stock .course; reference = referring 0 0 0; quotes = noQuotes }; window = [] }
 
--- state, clock, early, entry, pause, the reference's price, start and hold, and how many bids, offers and trades there are
+-- state, clock, early, entry, pause, the reference's sum, count, start and hold, and how many bids, offers and trades there are
 abbrev numbersOf : Whole → List ℕ
 numbersOf h =
     let c = h .stock .course in
     let r = h .stock .reference in
     let q = h .stock .quotes in
-    c .state ∷ c .clock ∷ c .early ∷ c .entry ∷ c .pause ∷ r .price ∷ r .start ∷ r .hold ∷ length (q .bids) ∷ length (q .offers) ∷ length (h .window) ∷ []
+    c .state ∷ c .clock ∷ c .early ∷ c .entry ∷ c .pause ∷ r .price .sum ∷ r .price .count ∷ r .start ∷ r .hold ∷ length (q .bids) ∷ length (q .offers) ∷ length (h .window) ∷ []
+
+-- the state, and the reference's sum and count
+abbrev referred : Whole → List ℕ
+referred h = stateOf (h .stock) ∷ h .stock .reference .price .sum ∷ h .stock .reference .price .count ∷ []
 
 -- number, mark and time of what comes next
 abbrev upcoming : Upcoming → List ℕ
@@ -135,6 +150,73 @@ edges =
     bad (sound 2 1_000_000 0 990_000 0 (referring 0 990_000 1) noQuotes []) ∷
     bad (sound 3 1_000_000 0 0 990_000 (referring 0 990_000 1) noQuotes []) ∷
     bad (sound 4 3_000_000 0 0 3_000_000 (referring 0 0 0) noQuotes []) ∷
+    -- the sum and the count of a reference (R-3): each edge, also in Waiting and in Closed, where none is good
+    good (trading-with (mean-of 512 512) []) ∷
+    good (trading-with (mean-of 511_999_999_488 512) []) ∷
+    good (trading-with (mean-of 1_999_999_998 2) []) ∷
+    bad (trading-with (mean-of 513 513) []) ∷
+    bad (trading-with (mean-of 511 512) []) ∷
+    bad (trading-with (mean-of 511_999_999_489 512) []) ∷
+    bad (trading-with (mean-of 1_999_999_999 2) []) ∷
+    bad (trading-with (mean-of 0 1) []) ∷
+    bad (trading-with (mean-of 100_000 0) []) ∷
+    good (sound 0 1_000_000 0 0 0 (mean-of 100_001 2) noQuotes []) ∷
+    bad (sound 0 1_000_000 0 0 0 (mean-of 1 0) noQuotes []) ∷
+    bad (sound 0 1_000_000 0 0 0 (mean-of 0 1) noQuotes []) ∷
+    good (sound 5 3_600_000 0 0 0 (mean-of 0 0) noQuotes []) ∷
+    bad (sound 5 3_600_000 0 0 0 (mean-of 513 513) noQuotes []) ∷
+    bad (sound 5 3_600_000 0 0 0 (mean-of 2_000_000_000 2) noQuotes []) ∷
+    -- which pair each event takes, not reduced: the window's at f, at a T in Waiting, at v, h and T by the Test, and where Limit ends with a trade;
+    -- the old one at p, and where Limit ends with none; the price of O and R with count 1; a sum may need more than 32 bits
+    shown (referred (afterSettling 300_000 (sound 0 100_000 1 0 0 (referring 0 0 0) noQuotes (trade 90_000 1 ∷ trade 100_000 2 ∷ [])))) (1 ∷ 3 ∷ 2 ∷ []) ∷
+    shown (referred (afterSettling 300_000 (sound 0 100_000 1 0 0 (referring 0 0 0) noQuotes (replicate 5 (trade 90_000 999_999_999))))) (1 ∷ 4_999_999_995 ∷ 5 ∷ []) ∷
+    shown (referred (afterTelling (T 400_000 7) (waiting 400_000))) (1 ∷ 7 ∷ 1 ∷ []) ∷
+    shown (referred (afterTelling (T 400_000 7) (sound 0 400_000 0 0 0 (referring 0 0 0) noQuotes (trade 390_000 4 ∷ [])))) (1 ∷ 11 ∷ 2 ∷ []) ∷
+    shown (referred (afterSettling 1_000_000 (trading-with (old-mean-of 100_000 1) (trade 700_000 100_000 ∷ trade 990_000 101_000 ∷ trade 990_000 101_000 ∷ []))))
+    (1 ∷ 202_000 ∷ 2 ∷ []) ∷
+    shown (referred (afterSettling 1_020_000 (trading-with (mean-of 100_000 1) (trade 990_000 98_999 ∷ trade 990_000 99_000 ∷ [])))) (1 ∷ 197_999 ∷ 2 ∷ []) ∷
+    shown (referred (afterTelling (T 1_000_000 101_001) (trading-with (old-mean-of 100_000 1) (trade 990_000 101_000 ∷ [])))) (1 ∷ 202_001 ∷ 2 ∷ []) ∷
+    shown (referred (afterTelling (T 1_000_000 101_000) (trading-with (old-mean-of 100_000 1) (trade 990_000 100_999 ∷ [])))) (1 ∷ 100_000 ∷ 1 ∷ []) ∷
+    shown (referred (afterTelling (Q 1_000_000 5 0 0) (sound 2 1_000_000 0 990_000 0 (old-mean-of 300_001 3) noQuotes (trade 990_000 100_000 ∷ trade 990_000 100_002 ∷ []))))
+    (1 ∷ 200_002 ∷ 2 ∷ []) ∷
+    shown (referred (afterTelling (Q 1_000_000 5 0 0) (sound 2 1_000_000 0 990_000 0 (old-mean-of 300_001 3) noQuotes []))) (1 ∷ 300_001 ∷ 3 ∷ []) ∷
+    shown (referred (afterSettling 1_590_000 (sound 3 1_000_000 0 0 990_000 (old-mean-of 300_001 3) noQuotes []))) (1 ∷ 300_001 ∷ 3 ∷ []) ∷
+    shown (referred (afterTelling (R 1_290_000 2 100_000) (sound 3 1_000_000 0 0 990_000 (old-mean-of 300_001 3) noQuotes []))) (1 ∷ 100_000 ∷ 1 ∷ []) ∷
+    shown (referred (afterTelling (O 1_000 2 100_000) new-stock)) (1 ∷ 100_000 ∷ 1 ∷ []) ∷
+    -- h, a quote, a pause and closing keep both numbers
+    shown (referred (afterSettling 1_020_000 (trading-with (mean-of 300_001 3) []))) (1 ∷ 300_001 ∷ 3 ∷ []) ∷
+    shown (referred (afterTelling (Q 1_000_000 5 99_000 0) (trading-with (mean-of 300_001 3) []))) (1 ∷ 300_001 ∷ 3 ∷ []) ∷
+    shown (referred (afterSettling 1_005_000 (sound 2 1_000_000 0 990_000 0 (old-mean-of 300_001 3) noQuotes []))) (3 ∷ 300_001 ∷ 3 ∷ []) ∷
+    shown (referred (afterSettling 3_600_000 (sound 1 3_590_000 0 0 0 (old-mean-of 300_001 3) noQuotes []))) (5 ∷ 300_001 ∷ 3 ∷ []) ∷
+    -- what is printed: the rounded reference, in every state, and the bands of the exact one; from 105,500, as 105,499.5 is printed, they would be
+    -- 95,000 and 116,100
+    shown (line 0 0 (tellAnswer (P 1_000_000 2) (trading-with (mean-of 1_100_001 10) []))) (0 ∷ 0 ∷ 16 ∷ 1 ∷ 110_000 ∷ 99_000 ∷ 121_000 ∷ 0 ∷ 0 ∷ 0 ∷ 0 ∷ []) ∷
+    shown (line 0 0 (tellAnswer (P 1_000_000 2) (trading-with (mean-of 210_999 2) []))) (0 ∷ 0 ∷ 16 ∷ 1 ∷ 105_500 ∷ 94_900 ∷ 116_000 ∷ 0 ∷ 0 ∷ 0 ∷ 0 ∷ []) ∷
+    shown (noticed (settleAnswer 0 (sound 5 3_600_000 0 0 0 (mean-of 201_999 2) noQuotes []))) (0 ∷ 0 ∷ 14 ∷ 5 ∷ 101_000 ∷ 0 ∷ 0 ∷ 0 ∷ 0 ∷ 0 ∷ 0 ∷ []) ∷
+    shown (noticed (settleAnswer 0 (sound 0 1_000_000 0 0 0 (mean-of 300_001 3) noQuotes []))) (0 ∷ 0 ∷ 14 ∷ 0 ∷ 100_000 ∷ 0 ∷ 0 ∷ 0 ∷ 0 ∷ 0 ∷ 0 ∷ []) ∷
+    -- O and R take their price alone, and p the old pair, also where trades are held
+    shown (referred (afterTelling (O 100_000 2 100_000) (sound 0 100_000 1 0 0 (referring 0 0 0) noQuotes (trade 90_000 7 ∷ [])))) (1 ∷ 100_000 ∷ 1 ∷ []) ∷
+    shown (referred (afterTelling (R 1_290_000 2 100_000) (sound 3 1_000_000 0 0 990_000 (old-mean-of 300_001 3) noQuotes (trade 995_000 7 ∷ [])))) (1 ∷ 100_000 ∷ 1 ∷ []) ∷
+    shown (referred (afterSettling 1_590_000 (sound 3 1_300_000 0 0 990_000 (old-mean-of 300_001 3) noQuotes (trade 1_300_000 7 ∷ [])))) (1 ∷ 300_001 ∷ 3 ∷ []) ∷
+    -- w, a declared pause, a trade that does not move it and c keep both numbers
+    shown (referred (afterSettling 2_100_000 (sound 1 2_000_000 0 0 0 (old-mean-of 300_001 3) noQuotes []))) (1 ∷ 300_001 ∷ 3 ∷ []) ∷
+    shown (referred (afterTelling (P 1_000_000 2) (sound 1 1_000_000 0 0 0 (old-mean-of 300_001 3) (record { bids = set (noQuotes .bids) 5 1; offers = noQuotes .offers }) []))) (3 ∷ 300_001 ∷ 3 ∷ []) ∷
+    shown (referred (afterTelling (T 1_000_000 100_001) (trading-with (old-mean-of 300_001 3) []))) (1 ∷ 300_001 ∷ 3 ∷ []) ∷
+    shown (referred (afterSettling 3_900_000 (sound 4 3_600_000 0 0 3_000_000 (old-mean-of 300_001 3) noQuotes []))) (5 ∷ 300_001 ∷ 3 ∷ []) ∷
+    -- printed in Limit, Paused and a Late pause, after an accepted T and by the notice of f
+    shown (noticed (settleAnswer 0 (sound 2 1_000_000 0 990_000 0 (old-mean-of 210_999 2) noQuotes []))) (0 ∷ 0 ∷ 14 ∷ 2 ∷ 105_500 ∷ 94_900 ∷ 116_000 ∷ 0 ∷ 0 ∷ 0 ∷ 0 ∷ []) ∷
+    shown (noticed (settleAnswer 0 (sound 3 1_000_000 0 0 990_000 (old-mean-of 210_999 2) noQuotes []))) (0 ∷ 0 ∷ 14 ∷ 3 ∷ 105_500 ∷ 0 ∷ 0 ∷ 0 ∷ 0 ∷ 0 ∷ 0 ∷ []) ∷
+    shown (noticed (settleAnswer 0 (sound 4 3_600_000 0 0 3_000_000 (old-mean-of 210_999 2) noQuotes []))) (0 ∷ 0 ∷ 14 ∷ 4 ∷ 105_500 ∷ 0 ∷ 0 ∷ 0 ∷ 0 ∷ 0 ∷ 0 ∷ []) ∷
+    shown (line 0 0 (tellAnswer (T 1_000_000 101_001) (trading-with (old-mean-of 100_000 1) (trade 990_000 101_000 ∷ [])))) (0 ∷ 0 ∷ 0 ∷ 1 ∷ 101_001 ∷ 90_900 ∷ 111_100 ∷ 0 ∷ 0 ∷ 0 ∷ 0 ∷ []) ∷
+    shown (noticed (settleAnswer 300_000 (sound 0 100_000 1 0 0 (referring 0 0 0) noQuotes (trade 90_000 100_000 ∷ trade 100_000 100_001 ∷ [])))) (300_000 ∷ mark-f ∷ 0 ∷ 1 ∷ 100_001 ∷ 80_000 ∷ 120_000 ∷ 0 ∷ 0 ∷ 0 ∷ 0 ∷ []) ∷
+    -- the bands of 100,055.67; from 100,055 the lower would be 90,000
+    shown (line 0 0 (tellAnswer (P 1_000_000 2) (trading-with (mean-of 300_167 3) []))) (0 ∷ 0 ∷ 16 ∷ 1 ∷ 100_056 ∷ 90_100 ∷ 110_100 ∷ 0 ∷ 0 ∷ 0 ∷ 0 ∷ []) ∷
+    -- a trade and a quote at the bands of 105,499.5, which are 94,900 and 116,000
+    told (trading-with (mean-of 210_999 2) []) (T 1_000_000 94_899) 12 ∷
+    told (trading-with (mean-of 210_999 2) []) (T 1_000_000 94_900) 0 ∷
+    told (trading-with (mean-of 210_999 2) []) (T 1_000_000 116_000) 0 ∷
+    told (trading-with (mean-of 210_999 2) []) (T 1_000_000 116_001) 12 ∷
+    shown (referred (afterTelling (Q 1_000_000 5 116_000 0) (trading-with (mean-of 210_999 2) []))) (2 ∷ 210_999 ∷ 2 ∷ []) ∷
     -- a pause that began too late to be one
     good (sound 3 3_000_000 0 0 2_999_999 (referring 1 0 0) noQuotes []) ∷
     bad (sound 3 3_000_000 0 0 3_000_000 (referring 1 0 0) noQuotes []) ∷
@@ -326,9 +408,9 @@ edges =
     -- a state over 5 refuses as Closed does
     shown (taken 0 6 ∷ []) (7 ∷ []) ∷
     -- a stock as setup starts it
-    shown (numbersOf new-stock) (0 ∷ 0 ∷ 1 ∷ 0 ∷ 0 ∷ 0 ∷ 0 ∷ 0 ∷ 16 ∷ 16 ∷ 0 ∷ []) ∷
+    shown (numbersOf new-stock) (0 ∷ 0 ∷ 1 ∷ 0 ∷ 0 ∷ 0 ∷ 0 ∷ 0 ∷ 0 ∷ 16 ∷ 16 ∷ 0 ∷ []) ∷
     -- the stock after its opening: a start, a new hold, the price alone in the window
-    shown (numbersOf (afterTelling (O 1_000 2 100_000) new-stock)) (1 ∷ 1_000 ∷ 1 ∷ 0 ∷ 0 ∷ 100_000 ∷ 1_000 ∷ 1 ∷ 16 ∷ 16 ∷ 1 ∷ []) ∷
+    shown (numbersOf (afterTelling (O 1_000 2 100_000) new-stock)) (1 ∷ 1_000 ∷ 1 ∷ 0 ∷ 0 ∷ 100_000 ∷ 1 ∷ 1_000 ∷ 1 ∷ 16 ∷ 16 ∷ 1 ∷ []) ∷
     -- zeros after 1, 2 and 3, and beside a setup that is done; no mark and no time where settling did nothing
     shown (line 0 0 (tellAnswer (T 1_000_000 1) (trading-with (referring 0 990_000 1) []))) (0 ∷ 0 ∷ 1 ∷ 0 ∷ 0 ∷ 0 ∷ 0 ∷ 0 ∷ 0 ∷ 0 ∷ 0 ∷ []) ∷
     shown (line 0 0 (answer 2 (trading-with (referring 1 990_000 1) [] .stock))) (0 ∷ 0 ∷ 2 ∷ 0 ∷ 0 ∷ 0 ∷ 0 ∷ 0 ∷ 0 ∷ 0 ∷ 0 ∷ []) ∷

@@ -6,6 +6,7 @@ use lib.Dec.{leb, ltb}
 use lib.ListN.{set}
 use Rattle.forms.specs.Choice.{if_then_else_}
 use Rattle.forms.specs.Tables.{entry}
+use Rattle.band.specs.Band.{priceOf}
 use Rattle.rules.specs.Stock.{Whole, Waiting, Limit, clockOf, is, at-time, with-quotes, figuresOf, meanIn}
 use Rattle.rules.specs.States.{look, begin-trading, leave, test, begin-pause, shut}
 use Rattle.rules.specs.declared.Stock.{Stock}
@@ -91,9 +92,9 @@ abbrev pub with-quote : ℕ → ℕ → ℕ → Stock → Stock
 with-quote participant bid offer s =
     with-quotes (record { bids = set (s .quotes .bids) participant bid; offers = set (s .quotes .offers) participant offer }) s
 
--- an opening or a reopening: the window is its price alone, dated by the message
+-- an opening or a reopening: the window is its price alone, dated by the message, and so is the reference
 abbrev pub opened : ℕ → ℕ → Whole → Whole
-opened time price h = record { stock = begin-trading price (h .stock); window = record { at = time; price = price } ∷ [] }
+opened time price h = record { stock = begin-trading (priceOf price) (h .stock); window = record { at = time; price = price } ∷ [] }
 
 -- each message's effect
 unfoldable pub does : Message → Whole → Whole

@@ -8,6 +8,8 @@ use lib.ListN.{length}
 use Rattle.forms.specs.Choice.{if_then_else_, allOf, anyOf}
 use Rattle.forms.specs.Checks.{Check, first}
 use Rattle.forms.specs.Checks.Check.{_when_}
+use Rattle.band.specs.Band.{noMean, printedBy}
+use Rattle.band.specs.declared.Mean.{Mean}
 use Rattle.rules.specs.Stock.{Trade, Whole, Waiting, Paused, stateOf, clockOf, is}
 use Rattle.rules.specs.Quotes.{inForce, bandsIn, bestOf, straddle}
 use Rattle.rules.specs.States.{noQuotes}
@@ -77,11 +79,15 @@ orNotSide bad price = if bad then true else notSide price
 unfoldable pub badQuotes : Quotes → Bool
 badQuotes q = foldl orNotSide (foldl orNotSide false (q .bids)) (q .offers)
 
--- the reference is above every price, or missing in Trading, Limit or a pause
+-- a reference is that of at most 512 prices, and its sum is one that so many prices can have (R-3)
+unfoldable pub notReference : Mean → Bool
+notReference m = anyOf (ltb 512 (m .count) ∷ ltb (m .sum) (m .count) ∷ ltb (999_999_999 * m .count) (m .sum) ∷ [])
+
+-- the reference is not one that prices can have, or it is missing in Trading, Limit or a pause
 unfoldable pub badReference : Stock → Bool
 badReference s = anyOf (
-    ltb 999_999_999 (s .reference .price) ∷
-    allOf (eqb (s .reference .price) 0 ∷ leb 1 (stateOf s) ∷ leb (stateOf s) 4 ∷ []) ∷
+    notReference (s .reference .price) ∷
+    allOf (eqb (s .reference .price .count) 0 ∷ leb 1 (stateOf s) ∷ leb (stateOf s) 4 ∷ []) ∷
     [])
 
 -- the trades gone over so far: whether one was bad, and the time of the last
@@ -233,11 +239,15 @@ noBest = record { bid = record { price = 0; flag = 0 }; offer = record { price =
 abbrev pub zeros : ℕ → Answer
 zeros number = record { number = number; state = 0; reference = 0; lower = 0; upper = 0; best = noBest }
 
+-- the reference as an answer gives it, rounded; 0 where there is none
+abbrev pub printedReference : Stock → ℕ
+printedReference s = printedBy (s .reference .price)
+
 -- a number with what the stock shows; after 1, 2 and 3 zeros
 unfoldable pub answer : ℕ → Stock → Answer
 answer number s =
     if anyOf (eqb number 1 ∷ eqb number 2 ∷ eqb number 3 ∷ []) then zeros number else
-    record { number = number; state = stateOf s; reference = s .reference .price; lower = bandsIn s .lower; upper = bandsIn s .upper; best = bestOf s }
+    record { number = number; state = stateOf s; reference = printedReference s; lower = bandsIn s .lower; upper = bandsIn s .upper; best = bestOf s }
 
 -- the stock after a message: as the rules make it where the number is 0, else as it was
 unfoldable pub afterTelling : Message → Whole → Whole
@@ -288,7 +298,7 @@ fresh end u = record {
     setup = u;
     end = end;
     course = record { state = Waiting; clock = 0; early = 1; entry = 0; pause = 0 };
-    reference = record { price = 0; start = 0; hold = 0 };
+    reference = record { price = noMean; start = 0; hold = 0 };
     quotes = noQuotes;
   };
   window = [];

@@ -25,7 +25,8 @@ kTime s = if is Limit s then s .course .entry else clockOf s
 unfoldable pub bandsIn : Stock → Bands
 bandsIn s =
     if inForce s then
-    bandsOf (s .reference .price) 1 (percentOf (s .setup .tier) (s .setup .close)) (factorOf (s .setup .leverage) (kTime s) (s .end))
+    bandsOf (s .reference .price .sum) (s .reference .price .count) (percentOf (s .setup .tier) (s .setup .close))
+    (factorOf (s .setup .leverage) (kTime s) (s .end))
     else record { lower = 0; upper = 0 }
 
 -- ------------------------------------------------------------------ "Quotes and flags": the best bid and the best offer

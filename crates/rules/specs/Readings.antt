@@ -7,6 +7,7 @@ use mathlib.Core.List.{List, [], _∷_}
 use lib.Dec.{eqb}
 use Rattle.forms.specs.Choice.{if_then_else_}
 use Rattle.rules.specs.Stock.{Trade, Whole}
+use Rattle.band.specs.declared.Mean.{Mean}
 use Rattle.rules.specs.Moments.{mark-x}
 use Rattle.rules.specs.Machine.{message, moment, dated, becomes, Since}
 use Rattle.rules.specs.Book.{machine, Story}
@@ -36,8 +37,8 @@ abbrev pub NoneStarted : Whole → Story → Type 0
 NoneStarted h [] = Unit {0}
 NoneStarted h (e ∷ es) = ¬ StartsOne h e × NoneStarted (becomes machine h e) es
 
--- an event of the story, dated `start`, started a reference of that price, and none was started since
-abbrev pub StartedBy : ℕ → ℕ → Whole → Story → Type 0
+-- an event of the story, dated `start`, started a reference of that exact price, and none was started since
+abbrev pub StartedBy : Mean → ℕ → Whole → Story → Type 0
 StartedBy price start h es = Since machine (λ h e. Starts h e price) NoneStarted start h es
 
 -- ------------------------------------------------------------------ dates ("Moments")

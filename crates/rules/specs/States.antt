@@ -7,6 +7,7 @@ use lib.Dec.{leb, eqb}
 use lib.ListN.{replicate}
 use Rattle.forms.specs.Choice.{if_then_else_, allOf}
 use Rattle.band.specs.Band.{movesOf}
+use Rattle.band.specs.declared.Mean.{Mean}
 use Rattle.rules.specs.Stock.{Trading, Paused, Late, Closed, is, clockOf, with-quotes, in-state, refer-to, enter-limit, enter-pause, noTrades, meanIn}
 use Rattle.rules.specs.Quotes.{bestOf, atLimit, crossed}
 use Rattle.rules.specs.declared.Quotes.{Quotes}
@@ -18,18 +19,20 @@ unfoldable pub look : Stock → Stock
 look s = if allOf (is Trading s ∷ atLimit s ∷ not (crossed (bestOf s)) ∷ []) then enter-limit s else s
 
 -- an entry into Trading, with a reference that starts now
-unfoldable pub begin-trading : ℕ → Stock → Stock
+unfoldable pub begin-trading : Mean → Stock → Stock
 begin-trading price s = look (in-state Trading (refer-to price s))
 
 -- Leaving Limit, once flag 3 is on no side: the mean of the window is the new reference, and without a trade the old one stays.
 unfoldable pub leave : Figures → Stock → Stock
 leave f s = if atLimit s then s else begin-trading (if noTrades f then s .reference .price else meanIn f) s
 
--- Test: in Trading, with the hold ended and a trade in the window, a mean one percent away becomes the reference.
+-- Test: in Trading, with the hold ended and a trade in the window, a mean one percent away becomes the reference; nothing is rounded.
 unfoldable pub test : Figures → Stock → Stock
 test f s =
-    if allOf (is Trading s ∷ eqb (s .reference .hold) 0 ∷ not (noTrades f) ∷ movesOf (meanIn f) 1 (s .reference .price) 1 ∷ [])
-    then look (refer-to (meanIn f) s) else s
+    let mean = meanIn f in
+    let reference = s .reference .price in
+    if allOf (is Trading s ∷ eqb (s .reference .hold) 0 ∷ not (noTrades f) ∷ movesOf (mean .sum) (mean .count) (reference .sum) (reference .count) ∷ [])
+    then look (refer-to mean s) else s
 
 -- a pause starts now; from E - 600,000 on it is a Late pause
 unfoldable pub begin-pause : Stock → Stock

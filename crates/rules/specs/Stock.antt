@@ -6,7 +6,7 @@ use mathlib.Core.List.{List, [], _∷_, foldl}
 use lib.Dec.{ltb, eqb}
 use lib.ListN.{length}
 use Rattle.forms.specs.Choice.{if_then_else_}
-use Rattle.band.specs.Band.{meanOf}
+use Rattle.band.specs.declared.Mean.{Mean}
 use Rattle.rules.specs.declared.Course.{Course}
 use Rattle.rules.specs.declared.Reference.{Reference}
 use Rattle.rules.specs.declared.Quotes.{Quotes}
@@ -105,8 +105,8 @@ not-early s =
     let c = s .course in
     with-course (record { state = c .state; clock = c .clock; early = 0; entry = c .entry; pause = c .pause }) s
 
--- the stock with the reference `price`, started now, with a new hold
-abbrev pub refer-to : ℕ → Stock → Stock
+-- the stock with the reference `price`, which is exact (R-3), started now, with a new hold
+abbrev pub refer-to : Mean → Stock → Stock
 refer-to price s = with-reference (record { price = price; start = clockOf s; hold = 1 }) s
 
 -- the stock once the moment h has happened
@@ -132,9 +132,9 @@ figuresOf w = record { count = length w; oldest = oldest w; sum = total w }
 abbrev pub noTrades : Figures → Bool
 noTrades f = eqb (f .count) 0
 
--- the mean of the window's prices, by "Band arithmetic"
-abbrev pub meanIn : Figures → ℕ
-meanIn f = meanOf (f .sum) (f .count)
+-- the mean of the window's prices, exact: their own sum and count (R-3)
+abbrev pub meanIn : Figures → Mean
+meanIn f = record { sum = f .sum; count = f .count }
 
 -- The trades that have not left at `time`, when each stays for 300,000. The oldest stand first.
 unfoldable pub staying : ℕ → List Trade → List Trade

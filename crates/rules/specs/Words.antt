@@ -1,6 +1,6 @@
 -- Document 01 in words: ranges, quotes, moments, rubbish, numbers and answers, in the order of its sections. Each name is a proposition over
 -- numbers, or a table of such: no test of the rules is used. From the rules it takes only the names of states (Stock), of marks (Moments) and of
--- fields; from the crate band it takes the bands, and the words for the mean and one percent. The demands `numbers`, `book-numbers`,
+-- fields; from the crate band it takes the bands, and the words for the printed mean and one percent. The demands `numbers`, `book-numbers`,
 -- `setup-numbers`, `moments-are`, `shows`, `answers` and `mean` say that the rules compute this. The crates stock and book state what bytes mean,
 -- and what a refusal leaves of them.
 --
@@ -17,6 +17,7 @@ use Rattle.forms.specs.Words.Number.{_for_}
 use Rattle.band.specs.Band.{percentOf, factorOf, bandsOf}
 use Rattle.band.specs.Words as arithmetic
 use Rattle.band.specs.declared.Bands.{Bands}
+use Rattle.band.specs.declared.Mean.{Mean}
 use Rattle.rules.specs.Stock.{Trade, Whole, Waiting, Trading, Limit, Paused, Late, Closed, stateOf, clockOf}
 use Rattle.rules.specs.Moments.{mark-z, mark-w, mark-x, mark-p, mark-c, mark-v, mark-f, mark-h}
 use Rattle.rules.specs.declared.Side.{Side}
@@ -67,26 +68,35 @@ IsSetup u =
     and IsParticipant (u .primary)
     and IsPrice (u .close)
 
--- ------------------------------------------------------------------ "Band arithmetic": the mean; of "States", one percent
+-- ------------------------------------------------------------------ "Band arithmetic": the mean (R-3); of "States", one percent
 
 -- the sum of the prices of trades
 abbrev pub sumOf : List Trade → ℕ
 sumOf [] = 0
 sumOf (t ∷ ts) = t .price + sumOf ts
 
--- the mean of trades, in band's words: the whole number nearest to their sum by their count, a half going up; without a trade there is none
-abbrev pub IsMean : List Trade → ℕ → Type 0
-IsMean w mean = arithmetic.IsMean (sumOf w) (length w) mean
+-- the mean of trades, exact: the sum of their prices and how many they are, not reduced; without a trade there is none
+abbrev pub IsMean : List Trade → Mean → Type 0
+IsMean w mean = 1 ≤ length w and mean .sum ≡ sumOf w and mean .count ≡ length w
 
--- 100 x |mean - reference| >= reference, in band's words; both are fractions over 1
-abbrev pub OnePercent : ℕ → ℕ → Type 0
-OnePercent mean reference = arithmetic.OnePercent mean 1 reference 1
+-- a price as a mean: a sum with count 1
+abbrev pub IsPriceAlone : ℕ → Mean → Type 0
+IsPriceAlone price mean = mean .sum ≡ price and mean .count ≡ 1
+
+-- 100 x |mean - reference| >= reference, in band's words, of the exact numbers
+abbrev pub OnePercent : Mean → Mean → Type 0
+OnePercent mean reference = arithmetic.OnePercent (mean .sum) (mean .count) (reference .sum) (reference .count)
+
+-- the printed value, in band's words: the whole price nearest to the mean, a half going up; 0 where there is none
+abbrev pub IsPrinted : Mean → ℕ → Type 0
+IsPrinted mean price = (mean .count ≡ 0 and price ≡ 0) or arithmetic.IsPrinted (mean .sum) (mean .count) price
 
 -- ------------------------------------------------------------------ "Quotes and flags"
 
--- the bands of the reference, a fraction over 1, by the stock's close, and by the k of a time ("Band arithmetic")
+-- the bands of the exact reference, by the stock's close, and by the k of a time ("Band arithmetic")
 abbrev pub bandsAt : Stock → ℕ → Bands
-bandsAt s time = bandsOf (s .reference .price) 1 (percentOf (s .setup .tier) (s .setup .close)) (factorOf (s .setup .leverage) time (s .end))
+bandsAt s time =
+    bandsOf (s .reference .price .sum) (s .reference .price .count) (percentOf (s .setup .tier) (s .setup .close)) (factorOf (s .setup .leverage) time (s .end))
 
 -- the bands in force: in Trading by the k of the clock, in Limit by the k at its entry, and none elsewhere
 abbrev pub HasBands : Stock → Bands → Type 0
@@ -215,9 +225,16 @@ BadTime s =
 abbrev pub BadQuote : Quotes → Type 0
 BadQuote q = Some (λ bid. ¬ IsSide bid) (q .bids) or Some (λ offer. ¬ IsSide offer) (q .offers)
 
--- a reference above every price, or none in Trading, Limit or a pause
+-- a reference is that of at most 512 prices, and its sum is one that so many prices can have: from the count up to 999,999,999 times the count; none
+-- is 0 by 0
+abbrev pub IsReference : Mean → Type 0
+IsReference m = m .count ≤ 512 and m .count ≤ m .sum and m .sum ≤ 999_999_999 * m .count
+
+-- a reference that no prices can have, or a missing one in Trading, Limit or a pause
 abbrev pub BadReference : Stock → Type 0
-BadReference s = ¬ (s .reference .price ≤ 999_999_999) or (s .reference .price ≡ 0 and Trading ≤ stateOf s and stateOf s ≤ Late)
+BadReference s =
+    let m = s .reference .price in
+    ¬ IsReference m or (m .count ≡ 0 and Trading ≤ stateOf s and stateOf s ≤ Late)
 
 -- a held trade whose price is out of range, or whose time is after the clock or before that of the previous trade; a time out of range is after the clock, or
 -- the clock is out of range itself (`BadTime`)
@@ -396,10 +413,10 @@ ShowsNothing a =
 abbrev pub BandsShown : Stock → Bands → Type 0
 BandsShown s l = HasBands s l or (¬ ((b : Bands) × HasBands s b) and l .lower ≡ 0 and l .upper ≡ 0)
 
--- state, reference, lower, upper, best bid and flag, best offer and flag of a stock
+-- state, printed reference, lower, upper, best bid and flag, best offer and flag of a stock
 abbrev pub ShowsStock : Stock → Answer → Type 0
 ShowsStock s a =
-    a .state ≡ stateOf s and a .reference ≡ s .reference .price and BandsShown s (record { lower = a .lower; upper = a .upper })
+    a .state ≡ stateOf s and IsPrinted (s .reference .price) (a .reference) and BandsShown s (record { lower = a .lower; upper = a .upper })
     and BidShown s (a .best .bid) and OfferShown s (a .best .offer)
 
 -- a number that is given back is one of those above, or 0

@@ -10,7 +10,7 @@ blankRecord = record {
     setup = record { tier = 0; leverage = 0; primary = 0; close = 0 };
     end = 0;
     course = record { state = 0; clock = 0; early = 0; entry = 0; pause = 0 };
-    reference = record { price = 0; start = 0; hold = 0 };
+    reference = record { price = record { sum = 0; count = 0 }; start = 0; hold = 0 };
     quotes = record { bids = replicate 16 0; offers = replicate 16 0 };
   };
   count = 0;

@@ -1,6 +1,7 @@
 // Records before any setup.
 ghost use mathlib.Core.Path.{_≡_};
 ghost use Rattle.shelf.specs.Blank.{blankRecord};
+use band::Mean;
 use rules::Course;
 use rules::Quotes;
 use rules::Reference;
@@ -25,8 +26,9 @@ pub(crate) fn record() -> Record
         entry: 0,
         pause: 0,
     };
+    let price = Mean { sum: 0, count: 0 };
     let reference = Reference {
-        price: 0,
+        price,
         start: 0,
         hold: 0,
     };

@@ -1,15 +1,16 @@
 -- The laws of specs/Laws.antt.
 -- Assumes nothing.
 use mathlib.Core.Path.{_≡_, refl}
-use borrow.Author.Tests.{le-ltb}
-use Rattle.forms.proofs.Choice.{if-false, if-arms, all-eqb}
+use Rattle.forms.proofs.Choice.{if-true, if-arms, all-eqb}
 use Rattle.forms.proofs.Promises.{agree}
-use Rattle.rules.specs.Stock.{at-time, enter-limit}
+use Rattle.forms.proofs.Decides.{is-true}
+use Rattle.band.proofs.Words.{fits-decides}
+use Rattle.rules.specs.Stock.{at-time, enter-limit, meanIn}
 use Rattle.rules.specs.States.{look}
 use Rattle.rules.specs.Moments.{effect}
 use Rattle.rules.specs.Messages.{does, after}
 use Rattle.rules.specs.declared.Message.the-variants.{Trade as T, Quote as Q, Opening as O, Pause as P, Reopening as R, Closing as X}
-use Rattle.quotes.specs.Parts.{stockOf}
+use Rattle.quotes.specs.Parts.{stockOf, fitted}
 use Rattle.quotes.specs.Shown.{shownOf}
 use Rattle.quotes.proofs.Laws as quotes
 use Rattle.states.specs.After.{fit, effectAt, effectOf, afterOf}
@@ -26,7 +27,7 @@ as-the-rules (X time participant price) h = refl
 
 fits-as-it-is : FitsAsItIs
 unfolding fit
-fits-as-it-is f h = if-false _ _ _ (le-ltb _ _ h)
+fits-as-it-is f h = if-true _ _ _ (is-true _ (fits-decides (meanIn f)) h)
 
 after-is : AfterIs
 after-is s = (refl, refl)
@@ -42,6 +43,6 @@ laws = record {
   fits-as-it-is = fits-as-it-is;
   after-is = after-is;
   look-shows-the-same = look-shows-the-same;
-  after-message-determined = λ m f k q. agree (afterOf (effectOf m (fit f) (stockOf k q)));
-  after-moment-determined = λ mark time f k q. agree (afterOf (effect mark (fit f) (at-time time (stockOf k q))));
+  after-message-determined = λ m f k q. agree (afterOf (effectOf m (fit f) (stockOf (fitted k) q)));
+  after-moment-determined = λ mark time f k q. agree (afterOf (effect mark (fit f) (at-time time (stockOf (fitted k) q))));
 }

@@ -1,9 +1,9 @@
 -- What a message does to a stock beside its window (document 01, "Messages"), which figures a window can have, and a stock with what it shows.
 -- Assumes nothing.
-use Prim.Native.Nat.{_*_, _≤_}
-use lib.Dec.{ltb}
 use Rattle.forms.specs.Choice.{if_then_else_}
-use Rattle.rules.specs.Stock.{at-time}
+use Rattle.band.specs.Band.{priceOf, fits}
+use Rattle.band.specs.Words as arithmetic
+use Rattle.rules.specs.Stock.{at-time, meanIn}
 use Rattle.rules.specs.States.{begin-trading, begin-pause, shut}
 use Rattle.rules.specs.Messages.{timeOf, tradeRules, quoteRules, with-quote}
 use Rattle.rules.specs.declared.Stock.{Stock}
@@ -14,21 +14,21 @@ use Rattle.quotes.specs.Parts.{keptOf}
 use Rattle.quotes.specs.Shown.{shownOf}
 use Rattle.states.specs.declared.After.{After}
 
--- figures that a window of 32-bit prices can have: their mean fits 32 bits
+-- figures whose mean band has room for, as for that of every window
 abbrev pub Fits : Figures → Type 0
-Fits f = f .sum ≤ 4_294_967_295 * f .count
+Fits f = arithmetic.Fits (meanIn f)
 
--- the figures, or those of no trade where no window can have them
+-- the figures, or those of no trade where it has none
 unfoldable pub fit : Figures → Figures
-fit f = if ltb (4_294_967_295 * f .count) (f .sum) then record { count = 0; oldest = 0; sum = 0 } else f
+fit f = if fits (meanIn f) then f else record { count = 0; oldest = 0; sum = 0 }
 
 -- each message's effect on the stock, whose clock is already at its time
 unfoldable pub effectAt : Message → Figures → Stock → Stock
 effectAt (T time price) f s = tradeRules f s
 effectAt (Q time participant bid offer) f s = quoteRules f (with-quote participant bid offer s)
-effectAt (O time participant price) f s = begin-trading price s
+effectAt (O time participant price) f s = begin-trading (priceOf price) s
 effectAt (P time participant) f s = begin-pause s
-effectAt (R time participant price) f s = begin-trading price s
+effectAt (R time participant price) f s = begin-trading (priceOf price) s
 effectAt (X time participant price) f s = shut s
 
 -- an accepted message, with the figures of the window that it leaves

@@ -12,7 +12,7 @@ use Rattle.rules.specs.declared.Stock.{Stock}
 use Rattle.rules.specs.declared.Figures.{Figures}
 use Rattle.rules.specs.declared.Message.{Message}
 use Rattle.rules.specs.declared.Quotes.{Quotes}
-use Rattle.quotes.specs.Parts.{stockOf}
+use Rattle.quotes.specs.Parts.{stockOf, fitted}
 use Rattle.quotes.specs.Shown.{shownOf}
 use Rattle.quotes.specs.declared.Kept.{Kept}
 use Rattle.states.specs.After.{Fits, fit, effectOf, afterOf}
@@ -22,7 +22,7 @@ use Rattle.states.specs.declared.After.{After}
 abbrev pub AsTheRules : Type 0
 AsTheRules = (m : Message) (h : Whole) → effectOf m (figuresOf (after m h .window)) (h .stock) ≡ after m h .stock
 
--- figures of 32-bit prices are taken as they are
+-- figures for whose mean there is room are taken as they are
 abbrev pub FitsAsItIs : Type 0
 FitsAsItIs = (f : Figures) → Fits f → fit f ≡ f
 
@@ -41,6 +41,6 @@ pub record Laws : Type 0 where
   pub look-shows-the-same : LookShowsTheSame
   -- two results that a promise of src/lib.rt allows agree
   pub after-message-determined : (m : Message) (f : Figures) (k : Kept) (q : Quotes)
-      → Determines (λ (r : After). r ≡ afterOf (effectOf m (fit f) (stockOf k q)))
+      → Determines (λ (r : After). r ≡ afterOf (effectOf m (fit f) (stockOf (fitted k) q)))
   pub after-moment-determined : (mark time : ℕ) (f : Figures) (k : Kept) (q : Quotes)
-      → Determines (λ (r : After). r ≡ afterOf (effect mark (fit f) (at-time time (stockOf k q))))
+      → Determines (λ (r : After). r ≡ afterOf (effect mark (fit f) (at-time time (stockOf (fitted k) q))))

@@ -7,6 +7,7 @@ use mathlib.Core.Path.{_≡_}
 use lib.Dec.{eqb}
 use lib.ListN.{set}
 use Rattle.forms.specs.Choice.{if_then_else_, anyOf}
+use Rattle.band.specs.declared.Mean.{Mean}
 use Rattle.rules.specs.Stock.{Trading, noTrades, meanIn}
 use Rattle.rules.specs.States.{look, noQuotes}
 use Rattle.rules.specs.Moments.{mark-z, mark-c}
@@ -16,7 +17,7 @@ use Rattle.rules.specs.declared.Message.{Message}
 use Rattle.rules.specs.declared.Message.the-variants.{Trade as T, Quote as Q, Opening as O, Pause as P, Reopening as R, Closing as X}
 use Rattle.rules.specs.declared.Quotes.{Quotes}
 use Rattle.rules.specs.declared.Stock.{Stock}
-use Rattle.quotes.specs.Parts.{stockOf}
+use Rattle.quotes.specs.Parts.{stockOf, Room}
 use Rattle.quotes.specs.declared.Kept.{Kept}
 use Rattle.states.specs.declared.rule.Turn.{Turn}
 
@@ -50,10 +51,17 @@ unfoldable pub leftTo : Turn → Figures → Quotes → Stock
 leftTo t f q = if t .looks then quoteRules f (stockOf (t .kept) q) else stockOf (t .kept) q
 
 -- the reference's price once Limit has ended: the mean, where there is a trade
-abbrev pub leftPrice : Figures → ℕ → ℕ
+abbrev pub leftPrice : Figures → Mean → Mean
 leftPrice f price = if noTrades f then price else meanIn f
 
--- the turn t does to the stock what the rule does, whatever the quotes are, and looks at the quotes in Trading alone
+-- the turn t does to the stock what the rule does, whatever the quotes are, and looks at the quotes in Trading alone; band still has room for the
+-- reference
 pub record Turns (rule : Stock → Stock) (k : Kept) (t : Turn) : Type 0 where
   pub made : (q : Quotes) → turnedTo t q ≡ rule (stockOf k q)
   pub in-trading : t .looks ≡ true → t .kept .course .state ≡ Trading
+  pub room : Room (t .kept)
+
+-- with any quotes, the turn t ends as the rule does, and band still has room for the reference
+pub record Ends (now : Quotes → Stock) (rule : Stock → Stock) (k : Kept) (t : Turn) : Type 0 where
+  pub made : (q : Quotes) → now q ≡ rule (stockOf k q)
+  pub room : Room (t .kept)

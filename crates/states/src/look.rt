@@ -7,7 +7,7 @@ ghost use Rattle.forms.specs.Choice.{allOf};
 ghost use Rattle.rules.specs.Stock.{Limit};
 ghost use Rattle.rules.specs.Quotes.{bestOf, flagged, crossed};
 ghost use Rattle.rules.specs.States.{look};
-ghost use Rattle.quotes.specs.Parts.{stockOf};
+ghost use Rattle.quotes.specs.Parts.{stockOf, Room};
 ghost use Rattle.states.specs.After.{Fits, afterOf};
 ghost use Rattle.states.specs.Turns.{turnedTo, leftTo};
 use crate::After;
@@ -55,6 +55,7 @@ fn entered(b: Best, k: Kept) -> Kept
 
 // The stock after a turn; entering Limit changes nothing that the stock shows.
 pub(crate) fn turned(t: Turn, q: Quotes) -> After
+    requires { ⌜ Room (t .kept) ⌝ }
     ensures { λ r. ⌜ r ≡ afterOf (turnedTo t q) ⌝ }
 {
     let k = t.kept;
@@ -78,7 +79,7 @@ pub(crate) fn turned(t: Turn, q: Quotes) -> After
 
 // The stock after a turn that may end Limit.
 pub(crate) fn left(t: Turn, f: Figures, q: Quotes) -> After
-    requires { ⌜ Fits f ⌝ }
+    requires { ⌜ Fits f × Room (t .kept) ⌝ }
     ensures { λ r. ⌜ r ≡ afterOf (leftTo t f q) ⌝ }
 {
     let k = t.kept;

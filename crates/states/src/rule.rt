@@ -1,16 +1,19 @@
-// The state rules, up to the look at the quotes. All figures here have been through `fitted`: their mean fits 32
-// bits.
+// The state rules, up to the look at the quotes. Band has room for the mean of all figures here, which have been
+// through `fitted`, and for every reference.
 ghost use mathlib.Core.Path.{_≡_};
 ghost use mathlib.Core.Bool.{true, false};
+ghost use Rattle.band.specs.Band.{priceOf};
+ghost use Rattle.band.specs.Words as arithmetic;
 ghost use Rattle.rules.specs.Stock.{Trading, in-state, refer-to, meanIn};
 ghost use Rattle.rules.specs.States.{begin-trading, test, begin-pause};
 ghost use Rattle.rules.specs.Messages.{tradeRules};
 ghost use Rattle.rules.specs.Moments.{first-five, effect};
-ghost use Rattle.quotes.specs.Parts.{stockOf, keptOf, bare};
+ghost use Rattle.quotes.specs.Parts.{stockOf, keptOf, bare, Room};
 ghost use Rattle.states.specs.After.{Fits, fit, effectAt};
-ghost use Rattle.states.specs.Turns.{quotesTold, quotesAt, turnedTo, leftTo, leftPrice, Turns};
+ghost use Rattle.states.specs.Turns.{quotesTold, quotesAt, turnedTo, leftTo, leftPrice, Turns, Ends};
 ghost use Rattle.rules.specs.declared.Quotes.{Quotes};
 use crate::set;
+use band::Mean;
 use quotes::Kept;
 use rules::CLOSED;
 use rules::FIRST_FIVE;
@@ -35,26 +38,38 @@ pub struct Turn {
     pub looks: bool,
 }
 
-// The figures, or those of no trade where no window of 32-bit prices can have them.
+// The figures, or those of no trade where band has no room for their mean.
 pub(crate) fn fitted(f: Figures) -> Figures
     ensures { λ r. ⌜ (r ≡ fit f) × Fits r ⌝ }
 {
-    if 4_294_967_295 * (f.count as u64) < f.sum {
-        return Figures {
-            count: 0,
-            oldest: 0,
-            sum: 0,
-        };
+    if band::fits(mean(f)) {
+        return f;
     }
-    f
+    Figures {
+        count: 0,
+        oldest: 0,
+        sum: 0,
+    }
 }
 
-// The mean of the window's prices.
-fn mean(f: Figures) -> u32
-    requires { ⌜ Fits f ⌝ }
+// The mean of the window's prices, exact.
+fn mean(f: Figures) -> Mean
     ensures { λ r. ⌜ r ≡ meanIn f ⌝ }
 {
-    band::mean(f.sum, f.count) as u32
+    Mean {
+        sum: f.sum,
+        count: f.count as u64,
+    }
+}
+
+// A price as a mean.
+fn price_of(price: u32) -> Mean
+    ensures { λ r. ⌜ (r ≡ priceOf price) × arithmetic.Fits r ⌝ }
+{
+    Mean {
+        sum: price as u64,
+        count: 1,
+    }
 }
 
 // A turn without a look at the quotes.
@@ -78,7 +93,8 @@ fn looking(k: Kept) -> Turn
 }
 
 // An entry into Trading.
-fn begin_trading(price: u32, k: Kept) -> Turn
+fn begin_trading(price: Mean, k: Kept) -> Turn
+    requires { ⌜ arithmetic.Fits price ⌝ }
     ensures { λ r. ⌜ Turns (begin-trading price) k r ⌝ }
 {
     looking(set::trading(price, k))
@@ -86,7 +102,6 @@ fn begin_trading(price: u32, k: Kept) -> Turn
 
 // Limit has ended: Trading, with the mean as the reference where there is a trade.
 pub(crate) fn leave(f: Figures, k: Kept) -> Kept
-    requires { ⌜ Fits f ⌝ }
     ensures { λ r. ⌜ r ≡ keptOf (in-state Trading (refer-to (leftPrice f (k .reference .price)) (bare k))) ⌝ }
 {
     if f.count == 0 {
@@ -97,7 +112,7 @@ pub(crate) fn leave(f: Figures, k: Kept) -> Kept
 
 // The Test: a mean that is one percent away becomes the reference.
 fn test(f: Figures, k: Kept) -> Turn
-    requires { ⌜ Fits f ⌝ }
+    requires { ⌜ Fits f × Room k ⌝ }
     ensures { λ r. ⌜ Turns (test f) k r ⌝ }
 {
     let state = k.course.state;
@@ -112,15 +127,16 @@ fn test(f: Figures, k: Kept) -> Turn
     if count == 0 {
         return still(k);
     }
-    let price = mean(f);
-    if band::moves(price, reference.price) {
-        return looking(set::refer_to(price, k));
+    let mean = mean(f);
+    if band::moves(mean, reference.price) {
+        return looking(set::refer_to(mean, k));
     }
     still(k)
 }
 
 // Starts a pause now.
 fn begin_pause(k: Kept) -> Turn
+    requires { ⌜ Room k ⌝ }
     ensures { λ r. ⌜ Turns begin-pause k r ⌝ }
 {
     let end = k.end as u64;
@@ -133,7 +149,7 @@ fn begin_pause(k: Kept) -> Turn
 
 // The rule for a trade that has joined the window.
 fn trade(f: Figures, k: Kept) -> Turn
-    requires { ⌜ Fits f ⌝ }
+    requires { ⌜ Fits f × Room k ⌝ }
     ensures { λ r. ⌜ Turns (tradeRules f) k r ⌝ }
 {
     let c = k.course;
@@ -148,22 +164,22 @@ fn trade(f: Figures, k: Kept) -> Turn
 
 // The rule of a message; the clock is already at its time.
 pub(crate) fn message(m: Message, f: Figures, k: Kept) -> Turn
-    requires { ⌜ Fits f ⌝ }
-    ensures { λ r. ⌜ ((q : Quotes) → leftTo r f (quotesTold q m) ≡ effectAt m f (stockOf k q)) ⌝ }
+    requires { ⌜ Fits f × Room k ⌝ }
+    ensures { λ r. ⌜ Ends (λ q. leftTo r f (quotesTold q m)) (effectAt m f) k r ⌝ }
 {
     match m {
         Message::Trade { .. } => trade(f, k),
         Message::Quote { .. } => looking(k),
-        Message::Opening { price, .. } => begin_trading(price, k),
+        Message::Opening { price, .. } => begin_trading(price_of(price), k),
         Message::Pause { .. } => begin_pause(k),
-        Message::Reopening { price, .. } => begin_trading(price, k),
+        Message::Reopening { price, .. } => begin_trading(price_of(price), k),
         Message::Closing { .. } => still(set::in_state(CLOSED, k)),
     }
 }
 
 // The moment f.
 fn first_five(f: Figures, k: Kept) -> Turn
-    requires { ⌜ Fits f ⌝ }
+    requires { ⌜ Fits f × Room k ⌝ }
     ensures { λ r. ⌜ Turns (first-five f) k r ⌝ }
 {
     let n = set::not_early(k);
@@ -175,8 +191,8 @@ fn first_five(f: Figures, k: Kept) -> Turn
 
 // The rule of a moment; the clock is already at its time, and any other mark counts as h.
 pub(crate) fn moment(mark: u32, f: Figures, k: Kept) -> Turn
-    requires { ⌜ Fits f ⌝ }
-    ensures { λ r. ⌜ ((q : Quotes) → turnedTo r (quotesAt mark q) ≡ effect mark f (stockOf k q)) ⌝ }
+    requires { ⌜ Fits f × Room k ⌝ }
+    ensures { λ r. ⌜ Ends (λ q. turnedTo r (quotesAt mark q)) (effect mark f) k r ⌝ }
 {
     if mark == MARK_Z {
         return still(set::in_state(CLOSED, k));

@@ -2,8 +2,9 @@
 ghost use mathlib.Core.Path.{_≡_};
 ghost use Rattle.rules.specs.Stock.{Trading, with-course, with-reference, at-time, in-state, refer-to, hold-ended, not-early, enter-limit, enter-pause};
 ghost use Rattle.rules.specs.States.{noQuotes};
-ghost use Rattle.quotes.specs.Parts.{keptOf, bare};
+ghost use Rattle.quotes.specs.Parts.{keptOf, bare, Room, fitted};
 ghost use Rattle.states.specs.Turns.{withQuote, quotesTold, quotesAt};
+use band::Mean;
 use quotes::Kept;
 use rules::Course;
 use rules::LAST_PARTICIPANT;
@@ -119,8 +120,24 @@ fn with_reference(reference: Reference, k: Kept) -> Kept
     }
 }
 
+// The stock, whose reference counts as none where band has no room for it.
+pub(crate) fn fitted(k: Kept) -> Kept
+    ensures { λ r. ⌜ (r ≡ fitted k) × Room r ⌝ }
+{
+    let r = k.reference;
+    if band::fits(r.price) {
+        return k;
+    }
+    let reference = Reference {
+        price: Mean { sum: 0, count: 0 },
+        start: r.start,
+        hold: r.hold,
+    };
+    with_reference(reference, k)
+}
+
 // Starts the reference `price` now, with a new hold.
-pub(crate) fn refer_to(price: u32, k: Kept) -> Kept
+pub(crate) fn refer_to(price: Mean, k: Kept) -> Kept
     ensures { λ r. ⌜ r ≡ keptOf (refer-to price (bare k)) ⌝ }
 {
     let reference = Reference {
@@ -132,7 +149,7 @@ pub(crate) fn refer_to(price: u32, k: Kept) -> Kept
 }
 
 // Enters Trading with the reference `price`, which starts now.
-pub(crate) fn trading(price: u32, k: Kept) -> Kept
+pub(crate) fn trading(price: Mean, k: Kept) -> Kept
     ensures { λ r. ⌜ r ≡ keptOf (in-state Trading (refer-to price (bare k))) ⌝ }
 {
     in_state(TRADING, refer_to(price, k))
@@ -143,8 +160,9 @@ pub(crate) fn hold_ended(k: Kept) -> Kept
     ensures { λ r. ⌜ r ≡ keptOf (hold-ended (bare k)) ⌝ }
 {
     let r = k.reference;
+    let price = r.price;
     let reference = Reference {
-        price: r.price,
+        price,
         start: r.start,
         hold: 0,
     };

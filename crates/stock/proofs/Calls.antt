@@ -13,11 +13,15 @@ use Rattle.forms.specs.Choice.{if_then_else_, allOf, anyOf}
 use Rattle.forms.proofs.Choice.{if-true, if-false, if-arms, all-head, all-tail, all-yes, all-empty, any-head, any-tail}
 use Rattle.forms.specs.Checks.{first}
 use Rattle.forms.proofs.Checks.{beyond}
+use Rattle.band.specs.Words as arithmetic
+use Rattle.band.specs.declared.Mean.{Mean}
+use Rattle.band.proofs.Laws.{printed-most}
 use Rattle.rules.specs.Stock.{Trade, Whole, clockOf, figuresOf, staying}
 use Rattle.rules.specs.Moments.{no-moment, dueBy, windowAfter, come, nextOf, fire}
 use Rattle.rules.specs.Messages.{does, after}
 use Rattle.rules.specs.Numbers.{badTrades, rubbish, ownChecks, tells, settles, zeros, beside, answer, afterTelling, notice, tellAnswer, settleAnswer, readChecks, reads, readAnswer, noneComing, nextAnswer}
 use Rattle.rules.specs.Machine.{message, moment}
+use Rattle.rules.specs.Words.{IsReference}
 use Rattle.rules.specs.declared.Answer.{Answer}
 use Rattle.rules.specs.declared.Message.{Message}
 use Rattle.rules.specs.declared.Message.the-variants.{Trade as T, Quote as Q, Opening as O, Pause as P, Reopening as R, Closing as X}
@@ -30,7 +34,8 @@ use Rattle.rules.specs.declared.Upcoming.{Upcoming}
 use Rattle.rules.proofs.Next.{next-fits}
 use Rattle.rules.proofs.Passed.{told, settled}
 use Rattle.rules.proofs.Sound.{fewer, price-found, price-after}
-use Rattle.quotes.specs.Parts.{stockOf, keptOf, bare}
+use Rattle.quotes.specs.Parts.{stockOf, keptOf, bare, Room}
+use Rattle.quotes.specs.Shown.{shownOf}
 use Rattle.quotes.specs.declared.Kept.{Kept}
 use Rattle.judge.proofs.Laws as judge
 use Rattle.states.specs.After.{afterOf}
@@ -142,9 +147,19 @@ answer-is : (step : After) (s : Stock) (a : Answer) → step ≡ afterOf s → a
 unfolding answer anyOf if_then_else_
 answer-is step s a e f = rw (f, e)
 
--- of a reference in range the bands that it shows fit
-shown-fits : (step : After) (s : Stock) → step ≡ afterOf s → s .reference .price ≤ 999_999_999 → Fits (step .shown)
-shown-fits step s e l = let k = bands-fit s l in rw e (omega arith, omega arith)
+-- for a reference in range band has room
+pub in-room : (m : Mean) → IsReference m → arithmetic.Fits m
+in-room m (n, (l, u)) = (omega arith, omega arith)
+
+-- what is shown of it fits
+pub shown-fits : (s : Stock) → IsReference (s .reference .price) → Fits (keptOf s) (shownOf s)
+shown-fits s l =
+    let k = bands-fit s l in
+    let printed = printed-most (s .reference .price .sum) (s .reference .price .count) 999_999_999 (l .1 .1) in
+    (omega arith, omega arith, omega arith)
+
+left-fits : (step : After) (s : Stock) → step ≡ afterOf s → IsReference (s .reference .price) → Fits (step .kept) (step .shown)
+left-fits step s e l = rw e (shown-fits s l)
 
 -- a call takes its stock apart
 module _ (r : Record) (ts ps : List ℕ) (p : Kept) (ep : p ≡ keptOf (r .stock)) where
@@ -165,8 +180,11 @@ module _ (r : Record) (ts ps : List ℕ) (p : Kept) (ep : p ≡ keptOf (r .stock
     h = holding (stockOf p (b .kept .stock .quotes)) (g .figures) (b .times) (b .prices)
 
     -- the reference of a stock that is sound is in range
-    pub in-range : g .sound ≡ true → p .reference .price ≤ 999_999_999
+    pub in-range : g .sound ≡ true → IsReference (p .reference .price)
     in-range s = rw ep (price-found (view b) (rubbish-is (view b) .fails (no-rubbish b g k s)))
+
+    pub sound-room : g .sound ≡ true → Room p
+    sound-room s = in-room _ (in-range s)
 
     -- the window that the figures count is the one that is held
     same : (s : g .sound ≡ true) → h ≡ view b
@@ -180,19 +198,19 @@ module _ (r : Record) (ts ps : List ℕ) (p : Kept) (ep : p ≡ keptOf (r .stock
       unfolding messageNumber
       told-sound z = sound-where-done b g k _ (sym e ∙ z)
 
-      pub message-held : n ≡ 0 → Held (g .figures) (b .times) (b .prices)
-      message-held z = held b g k (told-sound z)
+      pub message-held : n ≡ 0 → Held (g .figures) (b .times) (b .prices) × Room p
+      message-held z = (held b g k (told-sound z), sound-room (told-sound z))
 
       told-zero : n ≡ 0 → tells m (view b) ≡ 0
       told-zero z = sym (own-number ∙ message-number-is b g k m ∙ simp (in-shape b g k (told-sound z), if-true)) ∙ z
 
       -- the stock that an accepted message leaves is in range, and so is one that is shown beside a refusal but 1
-      pub told-fits : (step : Step) → n ≡ 0 → Makes (after m) h step → Fits (step .after .shown)
+      pub told-fits : (step : Step) → n ≡ 0 → Makes (after m) h step → Fits (step .after .kept) (step .after .shown)
       told-fits step z makes =
           let made : Makes (after m) (view b) step = rw (same (told-sound z)) at makes in
-          shown-fits _ _ (made .after) (price-after (view b) (message m) (told-zero z, tt))
+          left-fits _ _ (made .after) (price-after (view b) (message m) (told-zero z, tt))
 
-      pub refused-in-range : ¬ (n ≡ 1) → p .reference .price ≤ 999_999_999
+      pub refused-in-range : ¬ (n ≡ 1) → IsReference (p .reference .price)
       unfolding messageNumber
       refused-in-range z = in-range (sound-unless-1 b g k _ (λ o. z (e ∙ o)))
 
@@ -242,21 +260,21 @@ module _ (r : Record) (ts ps : List ℕ) (p : Kept) (ep : p ≡ keptOf (r .stock
           sym is ∙ z
 
       -- the moment that is due is not after the time
-      pub moment-held : n ≡ 0 → Held (g .figures) (b .times) (b .prices) × (g .earliest .time ≤ time)
+      pub moment-held : n ≡ 0 → Held (g .figures) (b .times) (b .prices) × Room p × (g .earliest .time ≤ time)
       unfolding dueBy
       moment-held z =
           let due = settled time (view b) (settled-zero z) .due in
-          (held b g k (settled-sound z), rw (k .earliest (settled-sound z)) (leb-true _ _ (all-head _ _ (all-tail _ _ due))))
+          (held b g k (settled-sound z), sound-room (settled-sound z), rw (k .earliest (settled-sound z)) (leb-true _ _ (all-head _ _ (all-tail _ _ due))))
 
       -- the stock that a moment leaves is in range, and so is one that is shown beside a refusal but 1
-      pub settled-fits : (step : Step) → n ≡ 0 → Makes (come (g .earliest)) h step → Fits (step .after .shown)
+      pub settled-fits : (step : Step) → n ≡ 0 → Makes (come (g .earliest)) h step → Fits (step .after .kept) (step .after .shown)
       unfolding fire
       settled-fits step z makes =
           let s = settled-sound z in
           let made : Makes (come (nextOf (view b))) (view b) step = rw (same s, k .earliest s) at makes in
-          shown-fits _ _ (made .after) (price-after (view b) (moment (notice (view b))) ((time, settled-zero z), refl, tt))
+          left-fits _ _ (made .after) (price-after (view b) (moment (notice (view b))) ((time, settled-zero z), refl, tt))
 
-      pub unsettled-in-range : ¬ (n ≡ 1) → p .reference .price ≤ 999_999_999
+      pub unsettled-in-range : ¬ (n ≡ 1) → IsReference (p .reference .price)
       unfolding settleNumber
       unsettled-in-range z = in-range (sound-unless-1 b g k _ (λ o. z (e ∙ o)))
 

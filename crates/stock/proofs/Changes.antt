@@ -8,7 +8,7 @@ use native.Mathlib.Nat.{zero-add}
 use native.Mathlib.Omega.{arith}
 use borrow.Author.Tests.{eq-eqb, ne-eqb, leb-true, eqb-true}
 use lib.Dec.{eqb}
-use lib.ListN.{length, drop}
+use lib.ListN.{length, drop, length-drop}
 use Rattle.forms.specs.Choice.{if_then_else_, anyOf}
 use Rattle.forms.proofs.Choice.{if-true, if-false, all-head, all-tail}
 use Rattle.rules.specs.Stock.{Trade, Whole, figuresOf, total, oldest, at-time}
@@ -18,7 +18,11 @@ use Rattle.rules.specs.declared.Figures.{Figures}
 use Rattle.rules.specs.declared.Message.{Message}
 use Rattle.rules.specs.declared.Message.the-variants.{Trade as T, Quote as Q, Opening as O, Pause as P, Reopening as R, Closing as X}
 use Rattle.rules.specs.declared.Moment.{Moment}
+use Rattle.rules.specs.declared.Quotes.{Quotes}
 use Rattle.rules.specs.declared.Stock.{Stock}
+use Rattle.quotes.specs.Parts.{stockOf, Room, fitted}
+use Rattle.quotes.specs.declared.Kept.{Kept}
+use Rattle.quotes.proofs.Laws.{fitted-is}
 use Rattle.window.specs.Places.{trades, whole, goneOf, changed, restOf}
 use Rattle.window.specs.declared.Change.{Change}
 use Rattle.window.specs.declared.Change.the-variants.{Stay, Join, Leave, Empty, Start}
@@ -98,14 +102,14 @@ module _ (f : Figures) (ts ps : List ℕ) (k : Held f ts ps) where
   module _ (change : Change) where
     pub stayed : change ≡ Stay → Changed change (f .count) ts ps f
     unfolding changed
-    stayed q = record { figures = rw q (k .figures); small = omega (arith, can-join) }
+    stayed q = record { figures = rw q (k .figures); small = let c = can-join in (omega arith, omega arith) }
 
     pub joined : (time price : ℕ) (r : Figures) → change ≡ Join time price → price < 4_294_967_296 → r ≡ withTrade f time price
         → Changed change (f .count) ts ps r
     unfolding changed withTrade
     joined time price r q h e = record {
       figures = rw q (e ∙ ap (λ g. withTrade g time price) (k .figures) ∙ with-trade (trades (f .count) ts ps) (record { at = time; price = price }));
-      small = rw e (omega (arith, can-join));
+      small = let c = can-join in rw e (omega arith, omega arith);
     }
 
     pub left : (gone : ℕ) (r : Figures) → change ≡ Leave gone → r ≡ restOf gone f ts ps → Changed change (f .count) ts ps r
@@ -113,23 +117,33 @@ module _ (f : Figures) (ts ps : List ℕ) (k : Held f ts ps) where
     left gone r q e =
         let w = trades (f .count) ts ps in
         let is : r ≡ figuresOf (drop gone w) = e ∙ window.laws .rest-of-a-window gone f ts ps (k .places) (k .figures) in
-        record { figures = rw q is; small = rw is (omega (arith, rest-most _ gone w (k .good .1))) }
+        let few = of-count in
+        let counted = length-trades (f .count) ts ps in
+        let dropped = length-drop gone w in
+        record { figures = rw q is; small = rw is (omega arith, omega (arith, rest-most _ gone w (k .good .1))) }
 
     pub emptied : change ≡ Empty → Changed change (f .count) ts ps (record { count = 0; oldest = 0; sum = 0 })
     unfolding changed figuresOf total oldest
-    emptied q = record { figures = rw q; small = omega arith }
+    emptied q = record { figures = rw q; small = (omega arith, omega arith) }
 
     pub started : (time price : ℕ) → change ≡ Start time price → price < 4_294_967_296
         → Changed change (f .count) ts ps (record { count = 1; oldest = time; sum = price })
     unfolding changed figuresOf total oldest
-    started time price q h = record { figures = rw q (simp zero-add); small = omega arith }
+    started time price q h = record { figures = rw q (simp zero-add); small = (omega arith, omega arith) }
 
 -- ------------------------------------------------------------------ the step
 
-module _ (s : Stock) (f g : Figures) (ts ps : List ℕ) (change : Change) (st : After) (k : Held f ts ps)
-    (c : Changed change (f .count) ts ps g) where
+module _ (n : Kept) (q : Quotes) (f g : Figures) (ts ps : List ℕ) (change : Change) (st : After) (k : Held f ts ps)
+    (room : Room n) (c : Changed change (f .count) ts ps g) where
+  abbrev s : Stock
+  s = stockOf n q
+
   abbrev h : Whole
   h = holding s f ts ps
+
+  -- there is room for the reference, so the stock is taken as it is
+  as-it-is : stockOf (fitted n) q ≡ s
+  as-it-is = ap (λ n. stockOf n q) (fitted-is n .0 room)
 
   -- the step that leaves a rule's window makes of the stock what that window's figures make of it
   made : (rule : Whole → Whole) → changed change (h .window) ≡ rule h .window → (g ≡ figuresOf (rule h .window) → st ≡ afterOf (rule h .stock))
@@ -139,14 +153,16 @@ module _ (s : Stock) (f g : Figures) (ts ps : List ℕ) (change : Change) (st : 
       let is : g ≡ figuresOf (rule h .window) = c .figures ∙ ap figuresOf e in
       record { after = q is; count = ap (λ g. g .count) is; window = e }
 
-  pub message-step : (m : Message) → change ≡ changeOf m → st ≡ afterOf (effectOf m (fit g) s)
+  pub message-step : (m : Message) → change ≡ changeOf m → st ≡ afterOf (effectOf m (fit g) (stockOf (fitted n) q))
       → Makes (after m) h (record { after = st; count = g .count; change = change })
-  message-step m e q = made (after m) (rw e (by-message m h)) (λ is.
-      q ∙ ap afterOf (ap (λ g. effectOf m g s) (states.laws .fits-as-it-is g (c .small) ∙ is) ∙ states.laws .as-the-rules m h))
+  message-step m e o = made (after m) (rw e (by-message m h)) (λ is.
+      o ∙ ap (λ s. afterOf (effectOf m (fit g) s)) as-it-is
+      ∙ ap afterOf (ap (λ g. effectOf m g s) (states.laws .fits-as-it-is g (c .small) ∙ is) ∙ states.laws .as-the-rules m h))
 
   pub moment-step : (m : Moment) (time : ℕ) → time ≡ m .time → change ≡ changeAt (m .mark) time (f .count) ts
-      → st ≡ afterOf (effect (m .mark) (fit g) (at-time time s)) → Makes (come m) h (record { after = st; count = g .count; change = change })
+      → st ≡ afterOf (effect (m .mark) (fit g) (at-time time (stockOf (fitted n) q))) → Makes (come m) h (record { after = st; count = g .count; change = change })
   unfolding come
-  moment-step m time z e q =
+  moment-step m time z e o =
       made (come m) (rw (e, z) (by-moment m (f .count) ts ps (omega (arith, of-count f ts ps k, of-times f ts ps k)))) (λ is.
-      q ∙ rw (z, states.laws .fits-as-it-is g (c .small), is))
+      o ∙ ap (λ s. afterOf (effect (m .mark) (fit g) (at-time time s))) as-it-is
+      ∙ rw (z, states.laws .fits-as-it-is g (c .small), is))

@@ -16,7 +16,7 @@ use Rattle.rules.specs.Stock.{Trade, Whole, stateOf}
 use Rattle.rules.specs.Quotes.{bandsIn, bestOf}
 use Rattle.rules.specs.Moments.{no-moment, fire}
 use Rattle.rules.specs.Messages.{after}
-use Rattle.rules.specs.Numbers.{rubbish, zeros, noNotice, noneComing, beside, answer, tells, settles, notice, afterTelling, afterSettling, tellAnswer, settleAnswer}
+use Rattle.rules.specs.Numbers.{rubbish, zeros, noNotice, noneComing, beside, printedReference, answer, tells, settles, notice, afterTelling, afterSettling, tellAnswer, settleAnswer}
 use Rattle.rules.specs.declared.Answer.{Answer}
 use Rattle.rules.specs.declared.Notice.{Notice}
 use Rattle.rules.specs.declared.Stock.{Stock}
@@ -126,7 +126,7 @@ module _ {A : Type 0} (b : Bytes) (h : Whole) (n : ℕ) (given one : A) (o : Out
 pub answer-number : (n : ℕ) (s : Stock) → answer n s .number ≡ n
 unfolding answer
 answer-number n s = if-arms (λ a. a .number ≡ n) _ {x = zeros n}
-    {y = record { number = n; state = stateOf s; reference = s .reference .price; lower = bandsIn s .lower; upper = bandsIn s .upper; best = bestOf s }} (λ _. refl) (λ _. refl)
+    {y = record { number = n; state = stateOf s; reference = printedReference s; lower = bandsIn s .lower; upper = bandsIn s .upper; best = bestOf s }} (λ _. refl) (λ _. refl)
 
 pub notice-number : (time : ℕ) (h : Whole) → settleAnswer time h .answer .number ≡ settles time h
 unfolding settleAnswer notice

@@ -1,6 +1,6 @@
 -- What the private functions of a call promise each other.
 -- Assumes nothing.
-use Prim.Native.Nat.{ℕ, _+_, _*_, _^_, _≤_, _<_}
+use Prim.Native.Nat.{ℕ, _+_, _^_, _<_}
 use mathlib.Core.Bool.{true, false, not}
 use mathlib.Core.List.{List, [], _∷_}
 use mathlib.Core.Path.{_≡_}
@@ -10,16 +10,17 @@ use Rattle.forms.specs.Choice.{if_then_else_, allOf, anyOf}
 use Rattle.forms.specs.Checks.{first}
 use Rattle.rules.specs.Stock.{Whole, figuresOf}
 use Rattle.rules.specs.Moments.{mark-z, mark-c, mark-v, nextOf}
-use Rattle.rules.specs.Numbers.{badTrades, rubbish, messageChecks, timeChecks}
+use Rattle.rules.specs.Numbers.{badTrades, rubbish, messageChecks, timeChecks, printedReference}
 use Rattle.rules.specs.declared.Answer.{Answer}
 use Rattle.rules.specs.declared.Figures.{Figures}
 use Rattle.rules.specs.declared.Message.{Message}
 use Rattle.rules.specs.declared.Message.the-variants.{Trade as T, Quote as Q, Opening as O, Pause as P, Reopening as R, Closing as X}
 use Rattle.rules.specs.declared.Quotes.{Quotes}
 use Rattle.rules.specs.declared.Stock.{Stock}
-use Rattle.quotes.specs.Parts.{stockOf}
+use Rattle.quotes.specs.Parts.{stockOf, bare}
 use Rattle.quotes.specs.declared.Kept.{Kept}
 use Rattle.quotes.specs.declared.Shown.{Shown}
+use Rattle.states.specs.After as states
 use Rattle.states.specs.After.{afterOf}
 use Rattle.window.specs.Places.{trades, whole, goneOf, changed}
 use Rattle.window.specs.declared.Change.{Change}
@@ -49,14 +50,18 @@ messageNumber m g r = if g .sound then first (messageChecks m (r .count) (g .ear
 unfoldable pub settleNumber : ℕ → Sight → Stock → ℕ
 settleNumber time g s = if g .sound then first (timeChecks time (g .earliest) s) else 1
 
--- the bands that are shown fit 32 bits
-abbrev pub Fits : Shown → Type 0
-Fits s = (s .bands .lower < 2 ^ 32) × (s .bands .upper < 2 ^ 32)
+-- the printed reference of a stock
+abbrev pub printedOf : Kept → ℕ
+printedOf k = printedReference (bare k)
+
+-- the printed reference and the bands that are shown fit 32 bits
+abbrev pub Fits : Kept → Shown → Type 0
+Fits k s = (printedOf k < 2 ^ 32) × (s .bands .lower < 2 ^ 32) × (s .bands .upper < 2 ^ 32)
 
 -- a number with what is shown of a stock
 abbrev pub answerBy : ℕ → Kept → Shown → Answer
 answerBy number k s =
-    record { number = number; state = k .course .state; reference = k .reference .price; lower = s .bands .lower; upper = s .bands .upper; best = s .best }
+    record { number = number; state = k .course .state; reference = printedOf k; lower = s .bands .lower; upper = s .bands .upper; best = s .best }
 
 -- ------------------------------------------------------------------ a step, before a place is written
 
@@ -87,10 +92,10 @@ unfoldable pub withTrade : Figures → ℕ → ℕ → Figures
 withTrade f time price =
     record { count = f .count + 1; oldest = if eqb (f .count) 0 then time else f .oldest; sum = f .sum + price }
 
--- f are the figures of the changed window, and 32-bit prices can have them
+-- f are the figures of the changed window, and band has room for their mean
 pub record Changed (change : Change) (count : ℕ) (times prices : List ℕ) (f : Figures) : Type 0 where
   pub figures : f ≡ figuresOf (changed change (trades count times prices))
-  pub small : f .sum ≤ 4_294_967_295 * f .count
+  pub small : states.Fits f
 
 -- the stock with the window that has these figures
 abbrev pub holding : Stock → Figures → List ℕ → List ℕ → Whole

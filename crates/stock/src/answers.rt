@@ -1,8 +1,8 @@
 // The answers of the calls.
 ghost use mathlib.Core.Path.{_≡_};
-ghost use Prim.Native.Nat.{_≤_};
 ghost use Rattle.rules.specs.Moments.{no-moment};
 ghost use Rattle.rules.specs.Numbers.{answer, beside};
+ghost use Rattle.rules.specs.Words.{IsReference};
 ghost use Rattle.quotes.specs.Parts.{stockOf};
 ghost use Rattle.stock.specs.Steps.{Fits, answerBy};
 use quotes::Kept;
@@ -19,13 +19,14 @@ use rules::Side;
 
 // A number with what is shown of a stock. It is written field by field, so that no struct is copied right after it was written.
 pub(crate) fn with_shown(number: u32, k: Kept, s: Shown) -> Answer
-    requires { ⌜ Fits s ⌝ }
+    requires { ⌜ Fits k s ⌝ }
     ensures { λ r. ⌜ r ≡ answerBy number k s ⌝ }
 {
+    let reference = band::printed(k.reference.price);
     Answer {
         number,
         state: k.course.state,
-        reference: k.reference.price,
+        reference: reference as u32,
         lower: s.bands.lower as u32,
         upper: s.bands.upper as u32,
         best: Best {
@@ -43,7 +44,7 @@ pub(crate) fn with_shown(number: u32, k: Kept, s: Shown) -> Answer
 
 // A number with what the stock shows, or with zeros for 1, 2 and 3. Only with 1 can the reference be out of range.
 pub(crate) fn answer_of(number: u32, k: Kept, q: Quotes) -> Answer
-    requires { ⌜ (¬ (number ≡ 1) → k .reference .price ≤ 999999999) ⌝ }
+    requires { ⌜ (¬ (number ≡ 1) → IsReference (k .reference .price)) ⌝ }
     ensures { λ r. ⌜ r ≡ answer number (stockOf k q) ⌝ }
 {
     if (number == RUBBISH) | (number == BAD_SETUP) | (number == NO_STOCK) {

@@ -22,11 +22,12 @@ mod parts;
 mod sight;
 mod steps;
 
-// A stock's record: the stock, and how many trades its places hold.
+// A stock's record: the stock, and how many trades its places hold. The count has 64 bits, so that there is no
+// padding behind it.
 #[repr(C)]
 pub struct Record {
     pub stock: Stock,
-    pub count: u32,
+    pub count: u64,
 }
 
 // A message's answer, with the next record.

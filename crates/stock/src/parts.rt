@@ -23,7 +23,7 @@ pub(crate) fn kept_of(s: Stock) -> Kept
 }
 
 // The record of the stock with these parts, and with `count` held trades.
-pub(crate) fn record_of(k: Kept, quotes: Quotes, count: u32) -> Record
+pub(crate) fn record_of(k: Kept, quotes: Quotes, count: u64) -> Record
     ensures { λ r. ⌜ r ≡ recordOf k quotes count ⌝ }
 {
     let setup = k.setup;

@@ -1,6 +1,7 @@
 // The first look of every call at its stock and the held trades, and the number that refuses the call.
 ghost use mathlib.Core.Path.{_≡_};
-ghost use Rattle.quotes.specs.Parts.{bare};
+ghost use mathlib.Core.Bool.{true};
+ghost use Rattle.quotes.specs.Parts.{bare, Room};
 ghost use Rattle.stock.specs.View.{bytes};
 ghost use Rattle.stock.specs.Steps.{recordOf, Seen, messageNumber, settleNumber};
 use quotes::Kept;
@@ -18,7 +19,7 @@ pub struct Sight {
 }
 
 // Judges a stock with its places.
-pub(crate) fn see(count: u32, k: Kept, q: Quotes, times: &[u32], prices: &[u32]) -> Sight
+pub(crate) fn see(count: u64, k: Kept, q: Quotes, times: &[u32], prices: &[u32]) -> Sight
     ensures { λ g. ⌜ Seen (bytes (recordOf k q count) (now (times .entry)) (now (prices .entry))) g ⌝ }
 {
     let survey = window::survey(k.course.clock, count, times, prices);
@@ -33,7 +34,8 @@ pub(crate) fn see(count: u32, k: Kept, q: Quotes, times: &[u32], prices: &[u32])
 }
 
 // The number that a message is answered with.
-pub(crate) fn message_number(m: Message, seen: Sight, count: u32, k: Kept, q: Quotes) -> u32
+pub(crate) fn message_number(m: Message, seen: Sight, count: u64, k: Kept, q: Quotes) -> u32
+    requires { ⌜ (seen .sound ≡ true → Room k) ⌝ }
     ensures { λ n. ⌜ n ≡ messageNumber m seen (recordOf k q count) ⌝ }
 {
     if seen.sound {

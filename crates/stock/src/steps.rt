@@ -3,7 +3,7 @@ ghost use mathlib.Core.Path.{_≡_};
 ghost use Prim.Native.Nat.{_*_, _≤_};
 ghost use Rattle.rules.specs.Moments.{come};
 ghost use Rattle.rules.specs.Messages.{after};
-ghost use Rattle.quotes.specs.Parts.{stockOf};
+ghost use Rattle.quotes.specs.Parts.{stockOf, Room};
 ghost use Rattle.stock.specs.Steps.{changeOf, changeAt, Held, withTrade, Changed, holding, Makes};
 use quotes::Kept;
 use rules::Figures;
@@ -20,7 +20,7 @@ use window::Change;
 // places.
 pub struct Step {
     pub after: After,
-    pub count: u32,
+    pub count: u64,
     pub change: Change,
 }
 
@@ -107,7 +107,7 @@ pub(crate) fn after_message(
     k: Kept,
     q: Quotes,
 ) -> Step
-    requires { ⌜ Held f (now times) (now prices) ⌝ }
+    requires { ⌜ Held f (now times) (now prices) × Room k ⌝ }
     ensures { λ r. ⌜ Makes (after m) (holding (stockOf k q) f (now (times .entry)) (now (prices .entry))) r ⌝ }
 {
     let change = change_of(m);
@@ -115,7 +115,7 @@ pub(crate) fn after_message(
     let after = states::after_message(m, g, k, q);
     Step {
         after,
-        count: g.count,
+        count: g.count as u64,
         change,
     }
 }
@@ -139,7 +139,7 @@ pub(crate) fn after_moment(
     k: Kept,
     q: Quotes,
 ) -> Step
-    requires { ⌜ Held f (now times) (now prices) × (m .time ≤ by) ⌝ }
+    requires { ⌜ Held f (now times) (now prices) × Room k × (m .time ≤ by) ⌝ }
     ensures { λ r. ⌜ Makes (come m) (holding (stockOf k q) f (now (times .entry)) (now (prices .entry))) r ⌝ }
 {
     let time = own_time(m, by);
@@ -148,7 +148,7 @@ pub(crate) fn after_moment(
     let after = states::after_moment(m.mark, time, g, k, q);
     Step {
         after,
-        count: g.count,
+        count: g.count as u64,
         change,
     }
 }

@@ -16,7 +16,7 @@ use stock::Record;
 pub extern "C" fn sumpheron_version() -> u32
     ensures { λ r. ⌜ r ≡ version ⌝ }
 {
-    3
+    4
 }
 
 // Sets up every stock: writes its record from its four numbers of the list (tier, leverage, primary, close), and

@@ -29,7 +29,7 @@ pub struct Surveyed {
 
 // Validates and sums the window, in one pass over the times and two, rarely three, over the prices: it is sound where
 // both parts have 512 places, at most 512 trades are held, and none is bad at the clock.
-pub fn survey(clock: u32, count: u32, times: &[u32], prices: &[u32]) -> Surveyed
+pub fn survey(clock: u32, count: u64, times: &[u32], prices: &[u32]) -> Surveyed
     ensures { λ r. ⌜ r ≡ surveyOf clock count (now (times .entry)) (now (prices .entry)) ⌝ }
 {
     let n = count as usize;
@@ -59,7 +59,11 @@ pub fn survey(clock: u32, count: u32, times: &[u32], prices: &[u32]) -> Surveyed
     let sum = pass::sum(n, prices);
     Surveyed {
         sound: true,
-        figures: Figures { count, oldest, sum },
+        figures: Figures {
+            count: count as u32,
+            oldest,
+            sum,
+        },
     }
 }
 
@@ -121,7 +125,7 @@ pub fn wipe(xs: &mut [u32])
 
 // Writes the changed window to the front of each part, and zeros to the places that it frees; other unused places
 // keep their bytes. A part that is too short stays as it is.
-pub fn write(times: &mut [u32], prices: &mut [u32], count: u32, change: Change)
+pub fn write(times: &mut [u32], prices: &mut [u32], count: u64, change: Change)
     ensures { λ _. ⌜ Written change count (now (times .entry)) (now (prices .entry)) (now (times .exit)) (now (prices .exit)) ⌝ }
 {
     let n = count as usize;

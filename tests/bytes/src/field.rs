@@ -1,7 +1,9 @@
-//! The index of each field among a record's numbers.
+//! The index of each field among a record's numbers of 32 bits.
+//!
+//! A field of 64 bits is two of these numbers, the low half first: `wide` reads it, `set_wide` writes it.
 
-/// A record is this many numbers.
-pub const WORDS: usize = 46;
+/// A record is this many numbers of 32 bits.
+pub const WORDS: usize = 50;
 
 pub const TIER: usize = 0;
 pub const LEVERAGE: usize = 1;
@@ -13,14 +15,32 @@ pub const CLOCK: usize = 6;
 pub const EARLY: usize = 7;
 pub const ENTRY: usize = 8;
 pub const PAUSE: usize = 9;
-pub const REFERENCE: usize = 10;
-pub const START: usize = 11;
-pub const HOLD: usize = 12;
+/// The sum of the reference, of 64 bits.
+pub const REFERENCE_SUM: usize = 10;
+/// The count of the reference, of 64 bits.
+pub const REFERENCE_COUNT: usize = 12;
+pub const START: usize = 14;
+pub const HOLD: usize = 15;
 /// The first of sixteen bids.
-pub const BIDS: usize = 13;
+pub const BIDS: usize = 16;
 /// The first of sixteen offers.
-pub const OFFERS: usize = 29;
-pub const COUNT: usize = 45;
+pub const OFFERS: usize = 32;
+/// How many trades are held, of 64 bits.
+pub const COUNT: usize = 48;
+
+/// The fields of 64 bits.
+pub const WIDE: [usize; 3] = [REFERENCE_SUM, REFERENCE_COUNT, COUNT];
+
+/// A field of 64 bits.
+pub fn wide(record: &[u32; WORDS], field: usize) -> u64 {
+    u64::from(record[field]) | u64::from(record[field + 1]) << 32
+}
+
+/// Writes a field of 64 bits.
+pub fn set_wide(record: &mut [u32; WORDS], field: usize, number: u64) {
+    record[field] = number as u32;
+    record[field + 1] = (number >> 32) as u32;
+}
 
 /// The name of the field that this number of a record belongs to.
 pub fn name(word: usize) -> String {
@@ -35,7 +55,10 @@ pub fn name(word: usize) -> String {
         "early",
         "entry",
         "pause",
-        "reference",
+        "reference sum",
+        "reference sum, high half",
+        "reference count",
+        "reference count, high half",
         "start",
         "hold",
     ];
@@ -43,6 +66,7 @@ pub fn name(word: usize) -> String {
         0..BIDS => NAMES[word].to_string(),
         BIDS..OFFERS => format!("bids[{}]", word - BIDS),
         OFFERS..COUNT => format!("offers[{}]", word - OFFERS),
-        _ => "count".to_string(),
+        COUNT => "count".to_string(),
+        _ => "count, high half".to_string(),
     }
 }

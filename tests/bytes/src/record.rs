@@ -1,6 +1,6 @@
-//! One stock's bytes: its record of 46 numbers and its 512 places of times and of prices.
+//! One stock's bytes: its record of 200 bytes and its 512 places of times and of prices.
 
-use second::{Setup, Stock, Trade, LIMIT, PARTICIPANTS, TRADING};
+use second::{Mean, Setup, Stock, Trade, LIMIT, PARTICIPANTS, TRADING};
 
 use crate::field::*;
 use crate::PLACES;
@@ -16,8 +16,8 @@ impl Part<'_> {
     /// The stock that the bytes hold, or none if the record counts more trades than there are places.
     pub fn read(&self) -> Option<Stock> {
         let record = &self.record;
-        let count = record[COUNT] as usize;
-        if count > PLACES {
+        let count = wide(record, COUNT);
+        if count > PLACES as u64 {
             return None;
         }
         let clock = record[CLOCK];
@@ -27,7 +27,10 @@ impl Part<'_> {
             end: record[END],
             state: record[STATE],
             clock,
-            reference: record[REFERENCE],
+            reference: Mean {
+                sum: wide(record, REFERENCE_SUM),
+                count: wide(record, REFERENCE_COUNT),
+            },
             reference_start: record[START],
             hold_ended: u32::from(record[HOLD] == 0),
             limit_entry: record[ENTRY],
@@ -37,7 +40,7 @@ impl Part<'_> {
             f_done: u32::from(record[EARLY] == 0),
             bids: std::array::from_fn(|i| record[BIDS + i]),
             offers: std::array::from_fn(|i| record[OFFERS + i]),
-            trades: self.trades(count),
+            trades: self.trades(count as usize),
         })
     }
 
@@ -56,12 +59,13 @@ impl Part<'_> {
         }
         record[ENTRY] = after.limit_entry;
         record[PAUSE] = after.pause_start;
-        record[REFERENCE] = after.reference;
+        set_wide(record, REFERENCE_SUM, after.reference.sum);
+        set_wide(record, REFERENCE_COUNT, after.reference.count);
         record[START] = after.reference_start;
         record[HOLD] = hold(record[HOLD], before, after);
         record[BIDS..OFFERS].copy_from_slice(&after.bids);
         record[OFFERS..COUNT].copy_from_slice(&after.offers);
-        record[COUNT] = after.trades.len() as u32;
+        set_wide(record, COUNT, after.trades.len() as u64);
         self.write_trades(before.trades.len(), &after.trades);
     }
 
@@ -115,8 +119,8 @@ fn hold(stood: u32, before: &Stock, after: &Stock) -> u32 {
 ///
 /// In Trading only h and its Test write it, 30,000 after the old start. In Limit, leaving Limit
 /// writes it; if Limit begins again in the same call, its entry or the reference differs, since the
-/// same entry and reference give the same bands. In the other states, every change to Trading or
-/// Limit writes it.
+/// same entry and reference (sum and count) give the same bands. In the other states, every change
+/// to Trading or Limit writes it.
 fn starts_anew(before: &Stock, after: &Stock) -> bool {
     let kept = |stock: &Stock| (stock.state, stock.limit_entry, stock.reference);
     match before.state {
@@ -126,3 +130,4 @@ fn starts_anew(before: &Stock, after: &Stock) -> bool {
 }
 
 const _: () = assert!(OFFERS == BIDS + PARTICIPANTS && COUNT == OFFERS + PARTICIPANTS);
+const _: () = assert!(WORDS == COUNT + 2);

@@ -53,6 +53,12 @@ impl Book {
         self.play(&Call::Settle { stock: 0, time })
     }
 
+    /// The sum and the count of stock 0's reference.
+    fn reference(&self) -> (u64, u64) {
+        let record = &self.records[0];
+        (wide(record, REFERENCE_SUM), wide(record, REFERENCE_COUNT))
+    }
+
     /// Settles to this time and then tells the message.
     fn settle_and_tell(&mut self, letter: Letter, time: u32, rest: [u32; 3]) -> Given {
         while self.settle(time).answer.number == 0 {}
@@ -138,7 +144,7 @@ fn the_day_of_document_01() {
     assert_eq!(printed, PRINTED);
     let mut record = [0; WORDS];
     record[..BIDS].copy_from_slice(&[
-        2, 1, 2, 115_000, END, 1, 319_000, 1, 4_000, 19_000, 95_000, 319_000, 1,
+        2, 1, 2, 115_000, END, 1, 319_000, 1, 4_000, 19_000, 95_000, 0, 1, 0, 319_000, 1,
     ]);
     record[OFFERS + 5] = 115_100;
     record[OFFERS + 7] = 92_000;
@@ -155,8 +161,8 @@ fn setup_writes_every_byte() {
     let mut book = Book::filled(2, u32::MAX);
     assert_eq!(book.set_up(END, &[2, 3, 15, 1, 1, 1, 0, 999_999_999]), 0);
     let mut after = Book::filled(2, 0);
-    after.records[0][..BIDS].copy_from_slice(&[2, 3, 15, 1, END, 0, 0, 1, 0, 0, 0, 0, 0]);
-    after.records[1][..BIDS].copy_from_slice(&[1, 1, 0, 999_999_999, END, 0, 0, 1, 0, 0, 0, 0, 0]);
+    after.records[0][..ENTRY].copy_from_slice(&[2, 3, 15, 1, END, 0, 0, 1]);
+    after.records[1][..ENTRY].copy_from_slice(&[1, 1, 0, 999_999_999, END, 0, 0, 1]);
     assert_eq!(book, after);
 }
 
@@ -296,10 +302,105 @@ fn a_start_in_the_same_millisecond_is_seen() {
     stays.tell(Letter::Q, 2_000, [6, 0, 144_000]);
     assert_eq!(stays.records[0][HOLD], 8);
     book.tell(Letter::Q, 2_000, [5, 0, 96_000]);
-    assert_eq!(book.records[0][REFERENCE], 120_000);
+    assert_eq!(book.reference(), (360_000, 3));
     assert_eq!(book.records[0][ENTRY], 2_000);
     assert_eq!(book.records[0][STATE], 2);
     assert_eq!(book.records[0][HOLD], 1);
+}
+
+/// The reference is the window's own sum and count, and not reduced: 4 trades of 115,000 stay 460,000 and 4.
+#[test]
+fn the_reference_is_the_sum_and_the_count() {
+    let mut book = Book::started();
+    for price in [115_000; 4] {
+        book.tell(Letter::T, 1_000, [price, 0, 0]);
+    }
+    assert_eq!(book.reference(), (0, 0));
+    assert_eq!(book.settle(300_000).answer.reference, 115_000);
+    assert_eq!(book.reference(), (460_000, 4));
+    assert_eq!(book.records[0][HOLD], 1);
+    while book.settle(400_000).answer.number == 0 {}
+    assert_eq!(book.reference(), (460_000, 4));
+
+    // 115,000 x 1.01 is 116,150. A mean of 116,149.5 would be printed as that and stays below it.
+    let first = book.tell(Letter::T, 400_000, [115_001, 0, 0]);
+    assert_eq!(first.answer.number, 0);
+    let mut stays = book.clone();
+    stays.tell(Letter::T, 400_000, [117_298, 0, 0]);
+    assert_eq!(stays.reference(), (460_000, 4));
+    let given = book.tell(Letter::T, 400_000, [117_300, 0, 0]);
+    assert_eq!(given.answer.reference, 116_151);
+    assert_eq!(book.reference(), (232_301, 2));
+}
+
+/// Leaving Limit without a trade keeps a sum that its count does not divide.
+#[test]
+fn a_limit_without_a_trade_keeps_sum_and_count() {
+    let mut book = odd();
+    set_wide(&mut book.records[0], REFERENCE_SUM, 345_001);
+    set_wide(&mut book.records[0], REFERENCE_COUNT, 3);
+    set_wide(&mut book.records[0], COUNT, 0);
+    let given = book.tell(Letter::Q, 3_000, [5, 138_000, 0]);
+    assert_eq!((given.answer.state, given.answer.reference), (2, 115_000));
+    let given = book.tell(Letter::Q, 4_000, [5, 0, 0]);
+    assert_eq!((given.answer.state, given.answer.reference), (1, 115_000));
+    assert_eq!(book.reference(), (345_001, 3));
+    assert_eq!(book.records[0][START], 4_000);
+}
+
+/// The highest sum that 512 prices can have needs more than 32 bits, and so does the sum of a full window.
+#[test]
+fn sums_over_32_bits_are_kept() {
+    let mut book = Book::started();
+    assert_eq!(book.set_up(END, &[2, 1, 2, 999_999_999]), 0);
+    for _ in 0..PLACES {
+        let given = book.tell(Letter::T, 1_000, [999_999_999, 0, 0]);
+        assert_eq!(given.answer.number, 0);
+    }
+    assert_eq!(book.settle(300_000).answer.reference, 999_999_999);
+    assert_eq!(book.reference(), (511_999_999_488, 512));
+    assert_eq!(wide(&book.records[0], COUNT), 512);
+    let read = Call::Read { stock: 0 };
+    assert_eq!(book.play(&read).answer.number, 0);
+    set_wide(&mut book.records[0], REFERENCE_SUM, 511_999_999_489);
+    assert_eq!(book.play(&read).answer.number, 1);
+}
+
+/// Sum and count at the edges of their ranges, in a state that needs a reference and in one that does not.
+#[test]
+fn sum_and_count_have_a_range() {
+    const MOST: u64 = 999_999_999;
+    for (sum, count, trading, closed) in [
+        (0, 0, 1, 0),
+        (1, 0, 1, 1),
+        (u64::MAX, 0, 1, 1),
+        (0, 1, 1, 1),
+        (1, 1, 0, 0),
+        (MOST, 1, 0, 0),
+        (MOST + 1, 1, 1, 1),
+        (1 << 32, 1, 1, 1),
+        (511, 512, 1, 1),
+        (512, 512, 0, 0),
+        (MOST * 512, 512, 0, 0),
+        (MOST * 512 + 1, 512, 1, 1),
+        (513, 513, 1, 1),
+        (MOST * 513, 513, 1, 1),
+        (1 << 32, 1 << 32, 1, 1),
+        (115_000, 1 + (1 << 32), 1, 1),
+        (u64::MAX, u64::MAX, 1, 1),
+    ] {
+        for (state, number) in [(1, trading), (5, closed)] {
+            let mut book = odd();
+            let record = &mut book.records[0];
+            record[STATE] = state;
+            set_wide(record, REFERENCE_SUM, sum);
+            set_wide(record, REFERENCE_COUNT, count);
+            let before = book.clone();
+            let given = book.play(&Call::Read { stock: 0 });
+            assert_eq!(given.answer.number, number, "{sum} {count} {state}");
+            assert_eq!(book, before);
+        }
+    }
 }
 
 #[test]
@@ -313,13 +414,21 @@ fn rubbish_is_refused() {
         (CLOCK, 999),
         (ENTRY, END + 300_001),
         (PAUSE, u32::MAX),
-        (REFERENCE, 0),
+        (REFERENCE_SUM, 0),
+        (REFERENCE_SUM, 1_000_000_000),
+        (REFERENCE_SUM + 1, 1),
+        (REFERENCE_SUM + 1, 1 << 31),
+        (REFERENCE_COUNT, 0),
+        (REFERENCE_COUNT, 115_000),
+        (REFERENCE_COUNT + 1, 1),
         (START, 0),
         (BIDS + 15, 1_000_000_000),
         (OFFERS, u32::MAX),
         (COUNT, 4),
         (COUNT, 513),
         (COUNT, u32::MAX),
+        (COUNT + 1, 1),
+        (COUNT + 1, u32::MAX),
     ] {
         let mut book = odd();
         book.records[0][word] = number;
@@ -341,6 +450,10 @@ fn what_is_not_rubbish_is_taken() {
         (ENTRY, END + 300_000),
         (START, 2_000),
         (CLOCK, 31_000),
+        (REFERENCE_SUM, 1),
+        (REFERENCE_SUM, 999_999_999),
+        (REFERENCE_COUNT, 2),
+        (REFERENCE_COUNT, 512),
         (COUNT, 0),
     ] {
         let mut book = odd();

@@ -1,7 +1,10 @@
 //! A book in two copies, one for the library and one for the byte reader.
 
+use bytes::field::{wide, COUNT};
 use bytes::{play, Call, Given, Lent, PLACES, WORDS};
+use sumpheron::raw;
 
+use crate::exact::Step;
 use crate::library::{self, Arrays};
 use crate::report;
 use crate::tally::Tally;
@@ -70,8 +73,10 @@ impl Memory {
 
     /// The arrays as the library takes them. An array of length 0 still gets a valid pointer.
     fn arrays(&mut self, shape: Shape) -> Arrays {
+        let book: *mut raw::Record = self.records[1..].as_mut_ptr().cast();
+        assert!(book.is_aligned());
         Arrays {
-            book: self.records[1..].as_mut_ptr().cast(),
+            book,
             stocks: shape.stocks,
             times: self.times[1..].as_mut_ptr().cast(),
             times_length: shape.times,
@@ -107,11 +112,18 @@ impl Book {
         let room = Shape::right(self.stocks);
         assert!(shape.stocks <= room.stocks);
         assert!(shape.times <= room.times && shape.prices <= room.prices);
+        let named = named(call).filter(|&stock| stock < shape.stocks);
+        let before = named.map(|stock| (stock, *self.record(stock)));
         let expected = play(&mut self.reader.lent(shape), call);
-        // SAFETY: the three vectors do not overlap, and each is at least as long as the shape says.
+        // SAFETY: the three vectors do not overlap, the records are aligned, and each is at least as long as the shape says.
         let given = unsafe { library::play(self.library.arrays(shape), call) };
         let good_shape = shape.stocks > 0 && shape == Shape::right(shape.stocks);
         tally.count(call, &expected, good_shape);
+        if let (0, Some((stock, before))) = (expected.answer.number, &before) {
+            tally
+                .exact
+                .count(&self.step(call, &expected, *stock, before));
+        }
         let numbers = library::numbers(&expected);
         if given != numbers || self.library != self.reader {
             report::print(call, &numbers, &given);
@@ -120,6 +132,24 @@ impl Book {
             tally.differ();
         }
         expected
+    }
+
+    /// What an accepted call did to this stock.
+    fn step<'a>(
+        &'a self,
+        call: &'a Call,
+        given: &Given,
+        stock: usize,
+        before: &'a [u32; WORDS],
+    ) -> Step<'a> {
+        let after = self.record(stock);
+        Step {
+            call,
+            answer: given.answer,
+            before,
+            after,
+            held: &self.places(stock).1[..wide(after, COUNT) as usize],
+        }
     }
 
     pub fn record(&self, stock: usize) -> &[u32; WORDS] {
@@ -153,5 +183,15 @@ impl Book {
     }
 }
 
-const _: () = assert!(size_of::<sumpheron::raw::Record>() == 4 * WORDS);
-const _: () = assert!(align_of::<sumpheron::raw::Record>() == align_of::<u32>());
+/// The stock that a call is about; a setup is about all of them.
+fn named(call: &Call) -> Option<usize> {
+    let stock = match *call {
+        Call::Setup { .. } => return None,
+        Call::Settle { stock, .. } | Call::Read { stock } | Call::Next { stock } => stock,
+        Call::Tell(message) => message.stock,
+    };
+    Some(stock as usize)
+}
+
+const _: () = assert!(size_of::<raw::Record>() == 4 * WORDS);
+const _: () = assert!(align_of::<raw::Record>() == align_of::<u64>());

@@ -6,6 +6,7 @@ mod arguments;
 mod book;
 mod breaks;
 mod chance;
+mod exact;
 mod library;
 mod player;
 mod pool;

@@ -1,18 +1,19 @@
 //! Plays sensible calls on a book, aimed at states and times at which the rules change.
 
 use bytes::field::*;
-use bytes::{Call, Given, Lent, PLACES};
+use bytes::{Call, Given, PLACES};
 use second::{Answer, Letter, Message, CLOSED, TRADING, WAITING};
 
 use crate::book::Book;
+use crate::exact::{read_without_trades, reference, set_reference};
 use crate::prices::{self, Sight};
 use crate::{setups, times, Run};
 
-const BOOKS: usize = 1_500;
+const BOOKS: usize = 2_000;
 
 /// The messages to choose from in each state.
 const LETTERS: [&[u8]; 6] = [
-    b"TTTTTTQQQOOPRX",
+    b"TTTTTTQQQOOOPRX",
     b"TTTTTTTQQQQQQPPORX",
     b"TTTTQQQQQQOPRX",
     b"RRRRRQQQTOPX",
@@ -158,7 +159,7 @@ impl<'a> Player<'a> {
 
     pub fn time(&mut self, stock: usize) -> u32 {
         let record = self.book.record(stock);
-        let oldest = (record[COUNT] > 0).then(|| self.book.places(stock).0[0]);
+        let oldest = (wide(record, COUNT) > 0).then(|| self.book.places(stock).0[0]);
         times::pick(&mut self.run.chance, record, oldest)
     }
 
@@ -191,11 +192,12 @@ impl<'a> Player<'a> {
 
     fn sight(&self, stock: usize) -> Sight {
         let record = self.book.record(stock);
-        let count = record[COUNT].min(PLACES as u32);
+        let count = wide(record, COUNT).min(PLACES as u64);
         let held = &self.book.places(stock).1[..count as usize];
         Sight {
             answer: self.last[stock],
             close: record[CLOSE],
+            reference: reference(record),
             count,
             sum: held.iter().map(|&price| u64::from(price)).sum(),
         }
@@ -204,19 +206,12 @@ impl<'a> Player<'a> {
     /// What the stock would answer if the window's mean were the reference from now on.
     fn foresee(&self, stock: usize, sight: &Sight) -> Answer {
         let mut record = *self.book.record(stock);
-        let count = u64::from(sight.count);
         record[STATE] = TRADING;
-        record[COUNT] = 0;
         record[HOLD] = 0;
-        if count > 0 {
-            record[REFERENCE] = ((2 * sight.sum + count) / (2 * count)) as u32;
+        if sight.count > 0 {
+            set_reference(&mut record, (sight.sum, sight.count));
         }
-        let mut lent = Lent {
-            records: &mut [record],
-            times: &mut [0; PLACES],
-            prices: &mut [0; PLACES],
-        };
-        bytes::play(&mut lent, &Call::Read { stock: 0 }).answer
+        read_without_trades(record)
     }
 
     fn quote(&mut self, stock: usize, time: u32, participant: u32, sides: (u32, u32)) {

@@ -6,12 +6,14 @@ use crate::chance::Chance;
 
 pub const HIGHEST: u32 = 999_999_999;
 
-/// What the choice of a price depends on: the stock's last answer, its close and its window.
+/// What the choice of a price depends on: the stock's last answer, its close, its reference and its window.
 pub struct Sight {
     pub answer: Answer,
     pub close: u32,
+    /// The sum and the count of the reference, which may be rubbish.
+    pub reference: (u64, u64),
     /// How many trades are held, and the sum of their prices.
-    pub count: u32,
+    pub count: u64,
     pub sum: u64,
 }
 
@@ -59,19 +61,21 @@ fn without_bands(chance: &mut Chance, sight: &Sight) -> u32 {
     }
 }
 
-/// The price of a trade after which the mean is just, or just not, one percent away.
+/// The price of a trade after which the exact mean is just, or just not, one percent away. In a window of several trades the printed mean
+/// is often the same in both cases.
 fn edge_of_test(chance: &mut Chance, sight: &Sight) -> u32 {
-    let count = i64::from(sight.count) + 1;
-    let reference = i64::from(sight.answer.reference);
-    let far = i64::from(sight.answer.reference.div_ceil(100));
-    let short = i64::from(chance.one_in(2));
-    // The mean of sum s and count c is (2s + c) / 2c, rounded down: the least and the greatest s that give this mean.
-    let sum = if chance.one_in(2) {
-        (2 * count * (reference + far) - count + 1).div_euclid(2) - short
+    let (sum, count) = sight.reference;
+    let (reference, divisor) = (u128::from(sum), u128::from(count.max(1)));
+    let held = u128::from(sight.count) + 1;
+    let short = u128::from(chance.one_in(2));
+    // The least sum that is 101 percent of the reference, and the greatest that is 99 percent.
+    let wanted = if chance.one_in(2) {
+        (101 * reference * held).div_ceil(100 * divisor) - short.min(reference)
     } else {
-        (2 * count * (reference - far) + count - 1).div_euclid(2) + short
+        99 * reference * held / (100 * divisor) + short
     };
-    (sum - sight.sum as i64).clamp(1, i64::from(HIGHEST)) as u32
+    let price = wanted.saturating_sub(sight.sum.into());
+    price.clamp(1, HIGHEST.into()) as u32
 }
 
 /// One side of a quote.

@@ -1,29 +1,31 @@
 //! Every kind of call on broken records and places.
 
-use bytes::field::{CLOCK, COUNT};
+use bytes::field::{set_wide, CLOCK, COUNT, WIDE};
 use bytes::WORDS;
 use second::Letter;
 
 use crate::book::{Book, Snapshot};
 use crate::breaks;
+use crate::exact::set_reference;
 use crate::player::Player;
 use crate::Run;
 
-/// How many records of each state are broken word by word, and in each pair of words.
-const RECORDS: usize = 6;
-const BROKEN_WORDS: usize = 40_000;
-const BROKEN_PLACES: usize = 20_000;
-const MADE_UP: usize = 40_000;
+/// How many records of each state are broken number by number, and in each pair of numbers.
+const RECORDS: usize = 8;
+const BROKEN_FIELDS: usize = 50_000;
+const BROKEN_PLACES: usize = 24_000;
+const MADE_UP: usize = 50_000;
 const ODD_LIMITS: usize = 5_000;
-const TIED: usize = 20_000;
+const TIED: usize = 26_000;
 const ANY_BYTES: usize = 2_000;
 /// How many steps the player takes after a break.
 const WALK: usize = 6;
 
 pub fn all(run: &mut Run) {
     for snapshot in run.pool.some(RECORDS) {
-        word_by_word(run, &snapshot);
+        number_by_number(run, &snapshot);
         pair_by_pair(run, &snapshot);
+        reference_by_reference(run, &snapshot);
     }
     broken(run);
     made_up(run);
@@ -31,10 +33,10 @@ pub fn all(run: &mut Run) {
 
 /// Valid records, broken at random.
 fn broken(run: &mut Run) {
-    for _ in 0..BROKEN_WORDS {
+    for _ in 0..BROKEN_FIELDS {
         let mut broken = run.pool.pick(&mut run.chance);
         for _ in 0..run.chance.between(1, 3) {
-            breaks::break_word(&mut run.chance, &mut broken);
+            breaks::break_field(&mut run.chance, &mut broken);
         }
         try_and_walk(run, broken);
     }
@@ -50,7 +52,7 @@ fn made_up(run: &mut Run) {
     for _ in 0..MADE_UP {
         let mut made = breaks::made_up(&mut run.chance);
         if run.chance.one_in(8) {
-            breaks::break_word(&mut run.chance, &mut made);
+            breaks::break_field(&mut run.chance, &mut made);
         }
         try_and_walk(run, made);
     }
@@ -64,13 +66,14 @@ fn made_up(run: &mut Run) {
     }
     for _ in 0..ANY_BYTES {
         let mut any = breaks::any(&mut run.chance);
-        any.record[COUNT] %= 600;
+        let held = any.record[COUNT] % 600;
+        set_wide(&mut any.record, COUNT, held.into());
         try_and_walk(run, any);
     }
 }
 
-/// Each number of the record broken by itself.
-fn word_by_word(run: &mut Run, good: &Snapshot) {
+/// Each number of 32 bits broken by itself, the halves of wider ones too, and then each number of 64 bits.
+fn number_by_number(run: &mut Run, good: &Snapshot) {
     let mut book = Book::new(1);
     book.put(0, good);
     let mut player = Player::new(&mut book, run);
@@ -82,22 +85,44 @@ fn word_by_word(run: &mut Run, good: &Snapshot) {
         }
         broken.record[word] = good.record[word];
     }
+    for field in WIDE {
+        for number in breaks::wide_numbers(&good.record, field) {
+            set_wide(&mut broken.record, field, number);
+            try_all(&mut player, 0, &broken);
+        }
+        broken.record = good.record;
+    }
 }
 
-/// Each two numbers of the record broken at once.
+/// Each two numbers of the record broken at once. Those of 64 bits come after those of 32.
 fn pair_by_pair(run: &mut Run, good: &Snapshot) {
     let mut book = Book::new(1);
     book.put(0, good);
     let mut player = Player::new(&mut book, run);
-    for first in 0..WORDS {
+    for first in 0..WORDS + WIDE.len() {
         for second in 0..first {
             let mut broken = good.clone();
-            for word in [first, second] {
-                let numbers = breaks::numbers(&good.record, word);
-                broken.record[word] = player.run.chance.pick(&numbers);
+            for number in [first, second] {
+                let chance = &mut player.run.chance;
+                match number.checked_sub(WORDS) {
+                    Some(place) => breaks::break_wide(chance, &mut broken, WIDE[place]),
+                    None => breaks::break_narrow(chance, &mut broken, number),
+                }
             }
             try_all(&mut player, 0, &broken);
         }
+    }
+}
+
+/// The sum and the count of the reference at and past the edges of their range, together.
+fn reference_by_reference(run: &mut Run, good: &Snapshot) {
+    let mut book = Book::new(1);
+    book.put(0, good);
+    let mut player = Player::new(&mut book, run);
+    let mut broken = good.clone();
+    for reference in breaks::references() {
+        set_reference(&mut broken.record, reference);
+        try_all(&mut player, 0, &broken);
     }
 }
 

@@ -2,6 +2,8 @@
 
 use bytes::{Call, Given};
 
+use crate::exact::{Exact, ROUNDED, WRITTEN};
+
 /// The kinds of call, in the order of the table's rows.
 const KINDS: [&str; 10] = [
     "setup", "settle", "read", "next", "T", "Q", "O", "P", "R", "X",
@@ -39,6 +41,7 @@ pub struct Tally {
     coming: [u64; 8],
     /// Calls answered 1 though the arrays had the right lengths.
     rubbish: u64,
+    pub exact: Exact,
     differences: u64,
 }
 
@@ -133,6 +136,10 @@ impl Tally {
         print_row("marks", &self.marks);
         print_row("coming", &self.coming);
         print_row("answered-1", &[self.rubbish]);
+        print_row(" reference", &WRITTEN);
+        print_row("references", &self.exact.written);
+        print_row(" rounded", &ROUNDED);
+        print_row("exact", &self.exact.rounded);
     }
 
     /// What should have occurred and did not.
@@ -150,6 +157,11 @@ impl Tally {
             missing.extend((coming == 0).then(|| format!("{} to come", char::from(mark))));
         }
         missing.extend((self.rubbish == 0).then(|| "rubbish".to_string()));
+        let (written, rounded) = (&self.exact.written, &self.exact.rounded);
+        let titles = WRITTEN.iter().chain(&ROUNDED);
+        for (title, &count) in titles.zip(written.iter().chain(rounded)) {
+            missing.extend((count == 0).then(|| format!("reference: {title}")));
+        }
         missing
     }
 }

@@ -9,6 +9,11 @@ impl Chance {
         Chance(seed)
     }
 
+    /// Other random numbers. Drawing them leaves these as they are, so that the rest of the day depends less on what they are for.
+    pub fn aside(&self) -> Chance {
+        Chance(self.0.rotate_left(32))
+    }
+
     fn next(&mut self) -> u64 {
         self.0 = self.0.wrapping_add(0x9e37_79b9_7f4a_7c15);
         let mut z = self.0;

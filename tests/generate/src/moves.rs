@@ -16,7 +16,7 @@ impl Player {
             (Intent::Pause, TRADING) => self.pause(stock, time),
             (Intent::Start, LIMIT) => self.leave_limit(stock, time),
             (Intent::Start, TRADING) => {
-                let price = prices::far(&mut self.chance, &self.tape.book[stock]);
+                let price = prices::far(&mut self.chance, &self.tape.book[stock], time);
                 self.trade(stock, time, price);
             }
             (Intent::Trade, WAITING..=LIMIT) => self.trade_within(stock, time),
@@ -55,7 +55,7 @@ impl Player {
         let mut m = self.blank(stock, time, letter);
         let kept = &self.tape.book[stock];
         match letter {
-            Letter::T => m.price = prices::trade(&mut self.chance, kept),
+            Letter::T => m.price = prices::trade(&mut self.chance, kept, time),
             Letter::Q => {
                 m.participant = self.chance.below(self.plan.crowd);
                 (m.bid, m.offer) = prices::quote(&mut self.chance, kept);
@@ -87,7 +87,7 @@ impl Player {
     /// An opening price: near the last reference, or far from it.
     fn opening(&mut self, stock: usize) -> u32 {
         let kept = &self.tape.book[stock];
-        let (reference, close) = (kept.reference, kept.setup.close);
+        let (reference, close) = (kept.reference.rounded(), kept.setup.close);
         if reference > 0 && !self.chance.one_in(3) {
             let share = (reference / 10).max(1);
             let price = reference - share / 2 + self.chance.below(share);
@@ -117,7 +117,7 @@ impl Player {
     fn trade_within(&mut self, stock: usize, time: u32) {
         let now = prices::view(self.stock(stock));
         let price = if now.upper == 0 {
-            prices::trade(&mut self.chance, &self.tape.book[stock])
+            prices::trade(&mut self.chance, &self.tape.book[stock], time)
         } else {
             prices::within(&mut self.chance, &now)
         };
@@ -161,6 +161,7 @@ impl Player {
     /// Replaces every limit quote, so that Limit ends; sometimes it begins again at once.
     fn leave_limit(&mut self, stock: usize, time: u32) {
         let limits = self.limit_quotes(stock);
+        self.aim_at_half_cent(stock, time);
         if self.chance.one_in(3) {
             self.wait_for_leaving(stock, time, &limits);
         }
@@ -169,6 +170,18 @@ impl Player {
             let inside = prices::within(&mut self.chance, &now);
             let offer = self.chance.pick(&[0, inside, now.upper.min(HIGHEST)]);
             self.quote(stock, time, participant, 0, offer);
+        }
+    }
+
+    /// One time in three, a trade after which the bands that follow Limit are next to half a cent. It comes on top of the plan's messages.
+    fn aim_at_half_cent(&mut self, stock: usize, time: u32) {
+        let mut aside = self.chance.aside();
+        if aside.one_in(3) {
+            let kept = self.stock(stock);
+            let reference = kept.reference.rounded();
+            let price = prices::about_at_half_cent(&mut aside, kept, time, reference);
+            self.trade(stock, time, price);
+            self.plan.messages += 1;
         }
     }
 

@@ -1,4 +1,5 @@
-//! A second, independent reading of the rule book (document 01), worked out plainly.
+//! A second, independent reading of the rule book (document 01, as the requests of document 02 that
+//! have landed change it), worked out plainly.
 //!
 //! `band` is document 01's "Band arithmetic", `stock` its ranges, quotes, states and rubbish,
 //! `moments` its "Moments", `messages` its "Messages" and "Numbers given back";
@@ -13,6 +14,7 @@ mod messages;
 mod moments;
 mod stock;
 
+pub use band::{factor, width, Mean, Width};
 pub use messages::{tell, Letter, Message};
 pub use moments::settle;
 pub use stock::{

@@ -1,5 +1,6 @@
 //! Messages: the table, the checks in their order, and what each message does.
 
+use crate::band::Mean;
 use crate::stock::{
     lend, participant_in_range, price_in_range, quote_in_range, Answer, Stock, Trade, HELD_AT_MOST,
     TRADING, WAITING,
@@ -170,7 +171,7 @@ impl Stock {
         let time = self.clock;
         self.trades.clear();
         self.trades.push(Trade { time, price });
-        self.trade_on(price);
+        self.trade_on(Mean::of_price(price));
     }
 }
 

@@ -1,6 +1,6 @@
 //! One stock's record: what is kept, its ranges, its rubbish, its quotes and its states.
 
-use crate::band;
+use crate::band::{self, Mean};
 
 pub const WAITING: u32 = 0;
 pub const TRADING: u32 = 1;
@@ -42,8 +42,8 @@ pub struct Stock {
     pub state: u32,
     /// Time of the last accepted message or settled moment.
     pub clock: u32,
-    /// 0 is none.
-    pub reference: u32,
+    /// A count of 0 is none.
+    pub reference: Mean,
     pub reference_start: u32,
     /// Marker: the moment h of this reference has happened.
     pub hold_ended: u32,
@@ -174,7 +174,7 @@ impl Stock {
             end,
             state: WAITING,
             clock: 0,
-            reference: 0,
+            reference: Mean::default(),
             reference_start: 0,
             hold_ended: 0,
             limit_entry: 0,
@@ -224,12 +224,13 @@ impl Stock {
         quotes.all(|&price| quote_in_range(price))
     }
 
-    /// 0 is none, and states 1 to 4 must have one.
+    /// Its sum is one that so many prices can have, and states 1 to 4 must have one.
     fn reference_in_range(&self) -> bool {
-        match self.state {
-            TRADING..=LATE_PAUSE => price_in_range(self.reference),
-            _ => self.reference <= PRICE_AT_MOST,
-        }
+        let Mean { sum, count } = self.reference;
+        let needed = (TRADING..=LATE_PAUSE).contains(&self.state);
+        count <= HELD_AT_MOST as u64
+            && (count..=u64::from(PRICE_AT_MOST) * count).contains(&sum)
+            && (count != 0 || !needed)
     }
 
     /// Every held trade, all of them looked at, in range and not after the clock.
@@ -260,7 +261,7 @@ impl Stock {
         Answer {
             number,
             state: self.state,
-            reference: self.reference,
+            reference: self.reference.rounded(),
             lower,
             upper,
             bid,
@@ -338,14 +339,14 @@ impl Stock {
     /// Ends Limit if flag 3 is on no side; it may begin again at once.
     fn leave_limit_if_due(&mut self) {
         if self.best_bid().1 != 3 && self.best_offer().1 != 3 {
-            let reference = band::mean(&self.trades).unwrap_or(self.reference);
+            let reference = Mean::of_trades(&self.trades).unwrap_or(self.reference);
             self.trade_on(reference);
         }
     }
 
     /// Trading with this reference from now; a new start always brings a new hold.
     /// The quotes are looked at again.
-    pub(crate) fn trade_on(&mut self, reference: u32) {
+    pub(crate) fn trade_on(&mut self, reference: Mean) {
         self.state = TRADING;
         self.reference = reference;
         self.reference_start = self.clock;
@@ -358,8 +359,8 @@ impl Stock {
         if self.state != TRADING || self.hold_ended == 0 {
             return;
         }
-        if let Some(mean) = band::mean(&self.trades) {
-            if band::is_far(mean, self.reference) {
+        if let Some(mean) = Mean::of_trades(&self.trades) {
+            if mean.is_far_from(self.reference) {
                 self.trade_on(mean);
             }
         }
@@ -367,7 +368,7 @@ impl Stock {
 
     /// If the window isn't empty, its mean is the first reference.
     pub(crate) fn trade_on_mean(&mut self) {
-        if let Some(mean) = band::mean(&self.trades) {
+        if let Some(mean) = Mean::of_trades(&self.trades) {
             self.trade_on(mean);
         }
     }

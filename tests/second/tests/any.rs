@@ -24,11 +24,12 @@ impl Dice {
 
     /// A number near an edge of some rule, or any number.
     fn any(&mut self) -> u32 {
-        const EDGES: [u32; 14] = [
+        const EDGES: [u32; 15] = [
             0,
             1,
             5,
             15,
+            512,
             30_000,
             300_000,
             600_000,
@@ -73,7 +74,7 @@ impl Dice {
         };
         let mut stock = setup(&[one], 3_600_000).unwrap().remove(0);
         stock.state = self.below(6);
-        stock.reference = 1 + self.below(100_000);
+        stock.reference = self.good_mean();
         for field in [
             &mut stock.clock,
             &mut stock.reference_start,
@@ -107,6 +108,24 @@ impl Dice {
         stock
     }
 
+    /// A mean of 1 to 511 prices up to 100,000, mostly a fraction.
+    fn good_mean(&mut self) -> Mean {
+        let count = u64::from(1 + self.below(4) * self.below(171));
+        let sum = count * u64::from(1 + self.below(99_999)) + u64::from(self.next()) % count;
+        Mean { sum, count }
+    }
+
+    /// Any sum and count, or a sum at an edge of what a count allows, or one off it.
+    fn any_mean(&mut self) -> Mean {
+        let count = u64::from(self.any());
+        let edge = count * [1, 999_999_999][self.below(2) as usize];
+        let sum = match self.below(3) {
+            0 => u64::from(self.any()) << self.below(33),
+            _ => (edge + u64::from(self.below(3))).wrapping_sub(1),
+        };
+        Mean { sum, count }
+    }
+
     /// Puts any number into one of the fields.
     fn spoil(&mut self, stock: &mut Stock) {
         let any = self.any();
@@ -119,7 +138,7 @@ impl Dice {
             4 => stock.end = any,
             5 => stock.state = any,
             6 => stock.clock = any,
-            7 => stock.reference = any,
+            7 => stock.reference = self.any_mean(),
             8 => stock.reference_start = any,
             9 => stock.hold_ended = any,
             10 => stock.limit_entry = any,
@@ -176,10 +195,9 @@ fn likely(dice: &mut Dice, stock: &Stock) -> Message {
         _ => 3_000,
     };
     let about = |dice: &mut Dice| {
-        let middle = if stock.reference == 0 {
-            stock.setup.close
-        } else {
-            stock.reference
+        let middle = match stock.reference.rounded() {
+            0 => stock.setup.close,
+            reference => reference,
         };
         let width = middle / 8 + 2;
         (middle + dice.below(2 * width))
@@ -226,6 +244,7 @@ fn reached_books_stay_good() {
     let mut dice = Dice(2);
     let mut states = [0; 6];
     let mut numbers = [0; 17];
+    let mut fractions = 0;
     for _ in 0..3_000 {
         let tier = 1 + dice.below(2);
         let one = Setup {
@@ -254,11 +273,14 @@ fn reached_books_stay_good() {
             states[answer.state as usize] += 1;
             assert!(!book[0].is_rubbish(), "{:?}", book[0]);
             assert!(answer.number != 1 && answer.number != 6);
+            let Mean { sum, count } = book[0].reference;
+            fractions += u32::from(count != 0 && sum % count != 0);
             let w_done = [900_000, end - 1_500_000].map(|time| u32::from(book[0].clock >= time));
             assert_eq!([book[0].early_w_done, book[0].late_w_done], w_done);
         }
     }
     assert!(states.iter().all(|&count| count > 0), "{states:?}");
+    assert!(fractions > 0, "no reference was a fraction");
     for number in [0, 4, 7, 9, 10, 11, 12, 14, 15, 16] {
         assert!(numbers[number] > 0, "{numbers:?}");
     }

@@ -20,7 +20,7 @@ fn trading() -> Stock {
     Stock {
         state: TRADING,
         clock: 1_000,
-        reference: 115_000,
+        reference: Mean::of_price(115_000),
         reference_start: 1_000,
         ..fresh()
     }
@@ -63,6 +63,10 @@ fn closed() -> Stock {
         clock: E,
         ..late_pause()
     }
+}
+
+fn mean(sum: u64, count: u64) -> Mean {
+    Mean { sum, count }
 }
 
 fn message(letter: Letter, time: u32) -> Message {
@@ -301,11 +305,31 @@ fn rubbish() {
         ("pause", closed, |s| s.pause_start = E + 300_001),
         ("bid", fresh, |s| s.bids[15] = 1_000_000_000),
         ("offer", closed, |s| s.offers[0] = u32::MAX),
-        ("reference over", fresh, |s| s.reference = 1_000_000_000),
-        ("no reference in 1", trading, |s| s.reference = 0),
-        ("no reference in 2", limit, |s| s.reference = 0),
-        ("no reference in 3", paused, |s| s.reference = 0),
-        ("no reference in 4", late_pause, |s| s.reference = 0),
+        ("reference over", fresh, |s| {
+            s.reference = mean(1_000_000_000, 1)
+        }),
+        ("reference over in 1", trading, |s| {
+            s.reference = mean(1_000_000_000, 1)
+        }),
+        ("sum under the count", closed, |s| s.reference = mean(1, 2)),
+        ("sum 0 with a count", fresh, |s| s.reference = mean(0, 1)),
+        ("sum without a count", closed, |s| s.reference = mean(1, 0)),
+        ("sum over by 1", limit, |s| {
+            s.reference = mean(512 * 999_999_999 + 1, 512)
+        }),
+        ("the largest sum", late_pause, |s| {
+            s.reference = mean(u64::MAX, 512)
+        }),
+        ("count over", paused, |s| s.reference = mean(513, 513)),
+        ("the largest count", closed, |s| {
+            s.reference = mean(u64::MAX, u64::MAX)
+        }),
+        ("no reference in 1", trading, |s| s.reference = mean(0, 0)),
+        ("no reference in 2", limit, |s| s.reference = mean(0, 0)),
+        ("no reference in 3", paused, |s| s.reference = mean(0, 0)),
+        ("no reference in 4", late_pause, |s| {
+            s.reference = mean(0, 0)
+        }),
         ("late start in 3", paused, |s| s.pause_start = E - 600_000),
         ("513 trades", trading, |s| {
             s.trades = vec![Trade { time: 5, price: 5 }; 513]
@@ -371,8 +395,16 @@ fn not_rubbish() {
             s.limit_entry = E + 300_000;
             s.pause_start = E + 300_000;
         }),
-        ("no reference in 0", fresh, |s| s.reference = 0),
-        ("no reference in 5", closed, |s| s.reference = 0),
+        ("no reference in 0", fresh, |s| s.reference = mean(0, 0)),
+        ("no reference in 5", closed, |s| s.reference = mean(0, 0)),
+        ("the least reference", trading, |s| s.reference = mean(1, 1)),
+        ("the least sum of 512", trading, |s| {
+            s.reference = mean(512, 512)
+        }),
+        ("the greatest of 512", trading, |s| {
+            s.reference = mean(512 * 999_999_999, 512)
+        }),
+        ("a reference in 0", fresh, |s| s.reference = mean(7, 3)),
         ("markers", trading, |s| {
             s.early_w_done = u32::MAX;
             s.late_w_done = 7;
@@ -572,11 +604,25 @@ fn a_pause_without_straddle_is_16_in_trading_only() {
     }
 }
 
+/// Trading at 100,000 with the hold ended, and this trade held since 40,000.
+fn trading_with(price: u32) -> Stock {
+    Stock {
+        reference: Mean::of_price(100_000),
+        hold_ended: 1,
+        clock: 40_000,
+        trades: vec![Trade {
+            time: 40_000,
+            price,
+        }],
+        ..trading()
+    }
+}
+
 #[test]
 fn b10_the_test_in_trading() {
     for (price, reference) in [(100_999, 100_000), (101_000, 101_000), (99_000, 99_000)] {
-        let mut stock = trading();
-        (stock.reference, stock.hold_ended, stock.clock) = (100_000, 1, 40_000);
+        let mut stock = trading_with(1);
+        stock.trades.clear();
         let answer = tell_one(&mut stock, &trade(41_000, price));
         assert_eq!(answer.reference, reference, "B10");
         let anew = if reference == 100_000 {
@@ -588,13 +634,101 @@ fn b10_the_test_in_trading() {
     }
     // Not before the hold has ended.
     let mut stock = trading();
-    stock.reference = 100_000;
+    stock.reference = Mean::of_price(100_000);
     assert_eq!(
         tell_one(&mut stock, &trade(30_999, 110_000)).reference,
         100_000
     );
     let notice = settle_one(&mut stock, 31_000);
     assert_eq!((notice.mark, notice.answer.reference), (b'h', 110_000));
+}
+
+#[test]
+fn b10_the_test_between_two_prices() {
+    let mut stock = trading_with(100_999);
+    let answer = tell_one(&mut stock, &trade(41_000, 101_000));
+    assert_eq!((answer.reference, answer.lower), (100_000, 80_000), "B10");
+    assert_eq!(stock.reference, mean(100_000, 1));
+    // One ten-thousandth more, and the window's own sum and count are the reference.
+    let mut stock = trading_with(100_999);
+    let answer = tell_one(&mut stock, &trade(41_000, 101_001));
+    assert_eq!((answer.reference, answer.lower), (101_000, 80_800), "B10");
+    assert_eq!(stock.reference, mean(202_000, 2));
+}
+
+#[test]
+fn b11_f_prints_the_mean_of_1_and_2() {
+    let mut stock = fresh();
+    tell_one(&mut stock, &trade(1, 1));
+    tell_one(&mut stock, &trade(2, 2));
+    let notice = settle_one(&mut stock, 300_000);
+    assert_eq!((notice.mark, notice.answer.reference), (b'f', 2), "B11");
+    assert_eq!(stock.reference, mean(3, 2), "B11");
+    // The 1 leaves before the hold has ended, and h finds a mean of 2.
+    assert_eq!(settle_one(&mut stock, 300_001).mark, b'v');
+    assert_eq!(stock.reference, mean(3, 2));
+    tell_one(&mut stock, &trade(300_001, 2));
+    assert_eq!(settle_one(&mut stock, 300_002).mark, b'v');
+    let notice = settle_one(&mut stock, 330_000);
+    assert_eq!((notice.mark, notice.answer.reference), (b'h', 2));
+    assert_eq!(stock.reference, mean(2, 1), "B11");
+}
+
+#[test]
+fn o_and_r_make_a_reference_of_count_1() {
+    let mut stock = fresh();
+    tell_one(&mut stock, &trade(1, 7));
+    tell_one(&mut stock, &primary(Letter::O, 2, 115_000));
+    assert_eq!(stock.reference, mean(115_000, 1));
+    let mut stock = paused();
+    stock.reference = mean(345_001, 3);
+    tell_one(&mut stock, &primary(Letter::R, 301_000, 99_000));
+    assert_eq!(stock.reference, mean(99_000, 1));
+}
+
+#[test]
+fn p_and_a_close_keep_both_numbers_of_the_reference() {
+    let mut stock = paused();
+    stock.reference = mean(345_002, 4);
+    assert_eq!(settle_one(&mut stock, 601_000).mark, b'p');
+    assert_eq!((stock.state, stock.reference), (TRADING, mean(345_002, 4)));
+    assert_eq!(settle_all(&mut stock, E).last(), Some(&('z', E)));
+    assert_eq!((stock.state, stock.reference), (CLOSED, mean(345_002, 4)));
+}
+
+#[test]
+fn leaving_limit_takes_or_keeps_both_numbers() {
+    let mut empty = limit();
+    empty.reference = mean(345_000, 3);
+    let mut held = empty.clone();
+    held.trades = vec![
+        Trade {
+            time: 1_000,
+            price: 115_000
+        };
+        2
+    ];
+    let clear = quote(2_000, 7, 0, 0);
+    assert_eq!(tell_one(&mut empty, &clear).state, TRADING);
+    assert_eq!(empty.reference, mean(345_000, 3));
+    assert_eq!(tell_one(&mut held, &clear).state, TRADING);
+    assert_eq!(held.reference, mean(230_000, 2));
+}
+
+#[test]
+fn a_trade_that_ends_waiting_takes_the_window() {
+    let mut stock = waiting_late();
+    let mut other = stock.clone();
+    tell_one(&mut stock, &trade(300_000, 50_000));
+    assert_eq!(stock.reference, mean(50_000, 1));
+    // A record that no day reaches: a trade is held already.
+    other.trades = vec![Trade {
+        time: 300_000,
+        price: 50_001,
+    }];
+    let answer = tell_one(&mut other, &trade(300_000, 50_000));
+    assert_eq!((answer.state, answer.reference), (TRADING, 50_001));
+    assert_eq!(other.reference, mean(100_001, 2));
 }
 
 #[test]
@@ -619,7 +753,8 @@ fn f_opens_with_the_mean() {
     tell_one(&mut stock, &trade(1, 50_000));
     tell_one(&mut stock, &trade(1, 50_001));
     assert_eq!(settle_all(&mut stock, 300_000), [('f', 300_000)]);
-    assert_eq!((stock.state, stock.reference), (TRADING, 50_001));
+    assert_eq!((stock.state, stock.reference), (TRADING, mean(100_001, 2)));
+    assert_eq!(read(&[stock.clone()], 0).reference, 50_001);
     assert_eq!((stock.reference_start, stock.hold_ended), (300_000, 0));
     // Both trades of time 1 leave in one moment.
     let notice = settle_one(&mut stock, 300_001);
@@ -644,7 +779,7 @@ fn slip_a_pause_is_dated_by_its_moment() {
 #[test]
 fn slip_the_close_decides_the_percent() {
     let mut stock = trading();
-    (stock.reference, stock.clock) = (25_000, 1_000);
+    (stock.reference, stock.clock) = (Mean::of_price(25_000), 1_000);
     let answer = read(std::slice::from_ref(&stock), 0);
     assert_eq!((answer.lower, answer.upper), (20_000, 30_000));
     stock.setup.close = 7_499;
@@ -654,9 +789,9 @@ fn slip_the_close_decides_the_percent() {
 
 #[test]
 fn slip_one_rounding_of_the_band() {
-    let bands = |reference| {
+    let bands = |price| {
         let mut stock = trading();
-        stock.reference = reference;
+        stock.reference = Mean::of_price(price);
         let answer = read(&[stock], 0);
         (answer.lower, answer.upper)
     };
@@ -727,7 +862,7 @@ fn w_in_trading_moves_the_bands_and_looks_at_the_quotes() {
 fn leaving_limit_takes_the_mean_and_may_begin_afresh() {
     let mut stock = limit();
     tell_one(&mut stock, &trade(2_000, 100_000));
-    assert_eq!((stock.state, stock.reference), (LIMIT, 115_000));
+    assert_eq!((stock.state, stock.reference), (LIMIT, mean(115_000, 1)));
     let answer = tell_one(&mut stock, &quote(3_000, 7, 0, 80_000));
     // 80,000 was below the lower band of Limit, so no side had flag 3; the new band is 80,000.
     assert_eq!((answer.reference, answer.lower), (100_000, 80_000));
@@ -784,7 +919,7 @@ fn late_pauses() {
     }];
     (stock.clock, stock.offers[4]) = (E, 120_000);
     assert_eq!(settle_all(&mut stock, E + 300_000), [('c', E + 300_000)]);
-    assert_eq!((stock.state, stock.reference), (CLOSED, 115_000));
+    assert_eq!((stock.state, stock.reference), (CLOSED, mean(115_000, 1)));
     assert!(stock.trades.is_empty() && stock.offers == [0; PARTICIPANTS]);
     assert_eq!(settle_all(&mut stock, E + 300_000), []);
 }

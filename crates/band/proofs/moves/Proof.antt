@@ -1,27 +1,53 @@
 use borrow.Author.Needs.{needs}
 use mathlib.Core.Path.{_≡_, ap₂}
 use native.Mathlib.Omega.{arith}
-use Prim.Native.Nat.{ℕ, _+_, _-_, _*_, _≤_, _<_}
+use native.Mathlib.Nat.{mul-le-mul}
+use mir.Syntax.{w64}
+use mir.Val as val
+use Prim.Native.Nat.{ℕ, _+_, _-_, _*_, _≤_, _<_, _^_}
 use lib.Dec.{leb}
-use Rattle.band.specs.Band.{distance, movesOf}
+use Rattle.band.specs.Band.{fit, distance, movesOf}
+use Rattle.band.specs.Words.{Fits}
+use Rattle.band.specs.declared.Mean.{Mean}
 use Rattle.band.proofs.moves.Statement.{statement}
 use Rattle.band.proofs.moves.Tie as tie
 
--- of whole prices, by the one of the two differences that is not 0
-whole : (m r off : ℕ) → off ≡ (m - r) + (r - m) → leb r (100 * off) ≡ movesOf m 1 r 1
-unfolding distance movesOf
-whole m r off e =
-    let one : r ≡ r * 1 = omega arith in
-    let by : 100 * off ≡ 100 * ((m * 1 - r * 1) + (r * 1 - m * 1)) = omega arith in
-    ap₂ leb one by
+-- a sum times the other count has room, also a hundred times
+room : (m n : Mean) → Fits m → Fits n → 100 * (m .sum * n .count) < 2 ^ 64
+room m n f g =
+    let sum : m .sum ≤ 4_294_967_295_000 = omega (arith, f .0, f .1) in
+    let most : m .sum * n .count ≤ 4_294_967_295_000 * 1_000 = mul-le-mul sum (g .0) in
+    omega arith
 
-below : (m r : ℕ) → m < r → leb r (100 * (r - m)) ≡ movesOf m 1 r 1
-below m r h = whole m r (r - m) (omega arith)
+product : (m n : Mean) → Fits m → Fits n → val.Fits w64 (m .sum * n .count)
+product m n f g = record { fits = omega (arith, room m n f g) }
 
-above : (m r : ℕ) → r ≤ m → leb r (100 * (m - r)) ≡ movesOf m 1 r 1
-above m r h = whole m r (m - r) (omega arith)
+hundred : (m n : Mean) (less : ℕ) → Fits m → Fits n → val.Fits w64 (100 * (m .sum * n .count - less))
+hundred m n less f g = record { fits = omega (arith, room m n f g) }
+
+-- what the functions promise, and the one of the two differences that is not 0
+module _ (mean reference m n : Mean) (em : m ≡ fit mean) (en : n ≡ fit reference) where
+  apart : (off : ℕ) → off ≡ (m .sum * n .count - n .sum * m .count) + (n .sum * m .count - m .sum * n .count)
+      → leb (n .sum * m .count) (100 * off) ≡ movesOf (fit mean .sum) (fit mean .count) (fit reference .sum) (fit reference .count)
+  unfolding distance movesOf
+  apart off e = rw (e, em, en)
+
+  below : m .sum * n .count < n .sum * m .count
+      → leb (n .sum * m .count) (100 * (n .sum * m .count - m .sum * n .count)) ≡ movesOf (fit mean .sum) (fit mean .count) (fit reference .sum) (fit reference .count)
+  below h = apart _ (omega arith)
+
+  above : n .sum * m .count ≤ m .sum * n .count
+      → leb (n .sum * m .count) (100 * (m .sum * n .count - n .sum * m .count)) ≡ movesOf (fit mean .sum) (fit mean .count) (fit reference .sum) (fit reference .count)
+  above h = apart _ (omega arith)
 
 pub moves-spec : {M : Type 1} → statement M
 moves-spec =
     tie.close
-    (tie.spec (λ c. search needs) (λ c. search needs) (λ c. search below) (λ c. search needs) (λ c. search above))
+    (tie.spec (λ c κs. search needs) (λ c κs. search needs)
+    (λ c. search product)
+    (λ c. search product)
+    (λ c. search needs)
+    (λ c. search hundred)
+    (λ c. search below)
+    (λ c. search hundred)
+    (λ c. search above))

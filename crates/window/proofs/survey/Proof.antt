@@ -58,4 +58,4 @@ returns-5 c = search sound
 pub survey-spec : {M : Type 1} → statement M
 survey-spec =
     tie.close
-    (tie.spec returns returns-2 returns-3 (λ c κs. search needs) (λ c κs. search needs) returns-4 (λ c κs. search needs) (λ c κs. search needs) returns-5)
+    (tie.spec returns returns-2 returns-3 (λ c κs. search needs) (λ c κs. search needs) returns-4 (λ c κs. search needs) (λ c κs. search needs) (λ c. search needs) returns-5)

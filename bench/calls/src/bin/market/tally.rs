@@ -33,7 +33,7 @@ pub struct Tally {
     pub reopenings: u64,
     /// The number of trades that a message's stock holds: the sum over all messages, and the maximum.
     pub held: u64,
-    pub most_held: u32,
+    pub most_held: u64,
 }
 
 impl Tally {
@@ -45,8 +45,8 @@ impl Tally {
         self.pauses += u64::from(!paused(from) && paused(to));
     }
 
-    pub fn hold(&mut self, held: u32) {
-        self.held += u64::from(held);
+    pub fn hold(&mut self, held: u64) {
+        self.held += held;
         self.most_held = self.most_held.max(held);
     }
 }

@@ -4,7 +4,7 @@ use mathlib.Core.Path.{_≡_}
 use lib.Dec.{eqb}
 use Rattle.rules.specs.Quotes.{flagged, straddle}
 use Rattle.rules.specs.declared.Quotes.{Quotes}
-use Rattle.quotes.specs.Parts.{stockOf, basisOf, stockBy}
+use Rattle.quotes.specs.Parts.{stockOf, fitted, basisOf, stockBy}
 use Rattle.quotes.specs.Shown.{shownOf}
 use Rattle.quotes.specs.declared.Basis.{Basis}
 use Rattle.quotes.specs.declared.Kept.{Kept}
@@ -15,7 +15,7 @@ use Rattle.judge.proofs.message.is_straddle.Statement.{statement}
 use Rattle.judge.proofs.message.is_straddle.Tie as tie
 
 flag-2 : (k : Kept) (q : Quotes) (b : Basis) (r : Shown) → b ≡ basisOf k → r ≡ shownOf (stockBy b q)
-    → (eqb (r .best .bid .flag) 2 || eqb (r .best .offer .flag) 2) ≡ straddle (stockOf k q)
+    → (eqb (r .best .bid .flag) 2 || eqb (r .best .offer .flag) 2) ≡ straddle (stockOf (fitted k) q)
 unfolding flagged
 flag-2 k q b r e f = simp (shown-by k q b r e f, joined)
 

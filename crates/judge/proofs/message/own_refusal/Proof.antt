@@ -12,7 +12,7 @@ use Rattle.rules.specs.declared.Message.{Message}
 use Rattle.rules.specs.declared.Message.the-variants.{Trade}
 use Rattle.rules.specs.declared.Quotes.{Quotes}
 use Rattle.rules.specs.declared.Stock.{Stock}
-use Rattle.quotes.specs.Parts.{stockOf}
+use Rattle.quotes.specs.Parts.{stockOf, fitted}
 use Rattle.quotes.specs.declared.Kept.{Kept}
 use Rattle.judge.proofs.message.own_refusal.Statement.{statement}
 use Rattle.judge.proofs.message.own_refusal.Tie as tie
@@ -22,8 +22,8 @@ by-letter : (m n : Message) (held : ℕ) (s : Stock) (r : ℕ) → m ≡ n → r
 by-letter m n held s r e q = rw e q
 
 -- at the time of the message and beside any quotes, since a trade's checks ask neither
-of-trade : (time price held : ℕ) (k : Kept) (q : Quotes) (r : ℕ) → ((t : ℕ) (q : Quotes) → r ≡ first (ownChecks (Trade t price) held (stockOf k q)))
-    → r ≡ first (ownChecks (Trade time price) held (stockOf k q))
+of-trade : (time price held : ℕ) (k : Kept) (q : Quotes) (r : ℕ) → ((t : ℕ) (q : Quotes) → r ≡ first (ownChecks (Trade t price) held (stockOf (fitted k) q)))
+    → r ≡ first (ownChecks (Trade time price) held (stockOf (fitted k) q))
 of-trade time price held k q r e = e time q
 
 -- by what a call answered

@@ -3,7 +3,7 @@ use Prim.Native.Nat.{ℕ}
 use mathlib.Core.Bool.{Bool, true, false}
 use mathlib.Core.Path.{_≡_}
 use Rattle.forms.proofs.Choice.{if-true, if-false}
-use Rattle.band.specs.Band.{percentOf, factorOf, bandsOf}
+use Rattle.band.specs.Band.{percentOf, factorOf, fit, bandsOf}
 use Rattle.band.specs.declared.Bands.{Bands}
 use Rattle.rules.specs.Quotes.{inForce, kTime, bandsIn}
 use Rattle.rules.specs.States.{noQuotes}
@@ -14,7 +14,7 @@ use Rattle.quotes.proofs.side.bands_in.Tie as tie
 
 module _ (b : Basis) (on : Bool) (e : on ≡ inForce (stockBy b noQuotes)) where
   in-force : (percent time k : ℕ) (bands : Bands) → on ≡ true → percent ≡ percentOf (b .tier) (b .close) → time ≡ kTime (stockBy b noQuotes)
-      → k ≡ factorOf (b .leverage) time (b .end) → bands ≡ bandsOf (b .reference) 1 percent k → bands ≡ bandsIn (stockBy b noQuotes)
+      → k ≡ factorOf (b .leverage) time (b .end) → bands ≡ bandsOf (fit (b .reference) .sum) (fit (b .reference) .count) percent k → bands ≡ bandsIn (stockBy b noQuotes)
   unfolding bandsIn
   in-force percent time k bands z ep et ek eb = simp (eb, ek, ep, et, ← e, z, if-true)
 

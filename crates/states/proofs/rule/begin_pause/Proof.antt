@@ -8,5 +8,5 @@ pub begin-pause-spec : {M : Type 1} → statement M
 begin-pause-spec =
     tie.close
     (tie.spec (λ c. search needs) (λ c. search needs) (λ c. search needs) (λ c κs. search needs) (λ c κs. search needs)
-    (λ c. paused-late _ _ _ (omega arith) (c .before .enter-pause .ensures) (c .still .ensures)) (λ c κs. search needs)
-    (λ c κs. search needs) (λ c. paused-early _ _ _ (omega arith) (c .before .enter-pause2 .ensures) (c .still2 .ensures)))
+    (λ c. paused-late _ _ _ (search needs) (omega arith) (c .before .enter-pause .ensures) (c .still .ensures)) (λ c κs. search needs)
+    (λ c κs. search needs) (λ c. paused-early _ _ _ (search needs) (omega arith) (c .before .enter-pause2 .ensures) (c .still2 .ensures)))

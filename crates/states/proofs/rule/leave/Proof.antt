@@ -1,8 +1,8 @@
 use borrow.Author.Needs.{needs}
-use Prim.Native.Nat.{ℕ}
 use mathlib.Core.Path.{_≡_}
 use borrow.Author.Tests.{eq-eqb, ne-eqb}
 use Rattle.forms.proofs.Choice.{if-true, if-false}
+use Rattle.band.specs.declared.Mean.{Mean}
 use Rattle.rules.specs.Stock.{Trading, in-state, refer-to, meanIn}
 use Rattle.rules.specs.declared.Figures.{Figures}
 use Rattle.quotes.specs.Parts.{keptOf, bare}
@@ -16,7 +16,7 @@ module _ (f : Figures) (k r : Kept) where
       → r ≡ keptOf (in-state Trading (refer-to (leftPrice f (k .reference .price)) (bare k)))
   as-it-was z e = simp (eq-eqb _ _ z, if-true, e)
 
-  mean-of : (mean : ℕ) → (f .count ≡ 0 → ⊥) → mean ≡ meanIn f → r ≡ keptOf (in-state Trading (refer-to mean (bare k)))
+  mean-of : (mean : Mean) → (f .count ≡ 0 → ⊥) → mean ≡ meanIn f → r ≡ keptOf (in-state Trading (refer-to mean (bare k)))
       → r ≡ keptOf (in-state Trading (refer-to (leftPrice f (k .reference .price)) (bare k)))
   mean-of mean z m e = simp (ne-eqb _ _ z, if-false, e, m)
 

@@ -26,7 +26,7 @@ own-time-requires : tie.Need-own-time-requires
 own-time-requires c κs =
     let d = c .before .before .before .before .before .before .before .before .before .before .before .before .before .before .before .before in
     let r = d .before .before .before .before .before .before .before .before .before .before .args .self in
-    moment-held r _ _ _ (d .before .before .before .before .before .kept-of .ensures) _ (d .before .before .see .ensures) _ _ (d .before .settle-number .ensures) (d .if1 .taken) .1
+    moment-held r _ _ _ (d .before .before .before .before .before .kept-of .ensures) _ (d .before .before .see .ensures) _ _ (d .before .settle-number .ensures) (d .if1 .taken) .2
 
 returns : tie.Need-returns
 returns c =

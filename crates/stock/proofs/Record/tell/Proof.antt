@@ -1,7 +1,10 @@
 use borrow.Author.Needs.{needs}
-use Rattle.stock.proofs.Calls.{message-held, told-fits, refused-in-range, told-done, told-refused}
+use Rattle.stock.proofs.Calls.{sound-room, message-held, told-fits, refused-in-range, told-done, told-refused}
 use Rattle.stock.proofs.Record.tell.Statement.{statement}
 use Rattle.stock.proofs.Record.tell.Tie as tie
+
+message-number-requires : tie.Need-message-number-requires
+message-number-requires c κs s = search (sound-room, c .before .before .before .kept-of .ensures, c .see .ensures)
 
 after-message-requires : tie.Need-after-message-requires
 after-message-requires c κs =
@@ -49,6 +52,6 @@ returns-2 c =
 pub tell-spec : {M : Type 1} → statement M
 tell-spec =
     tie.close
-    (tie.spec (λ c κs. search needs) (λ c κs. search needs) (λ c κs. search needs) after-message-requires (λ c κs. search needs)
+    (tie.spec (λ c κs. search needs) (λ c κs. search needs) message-number-requires after-message-requires (λ c κs. search needs)
     with-shown-requires (λ c κs. search needs) (λ c. search needs) (λ c. search needs) returns answer-of-requires
     (λ c. search needs) (λ c. search needs) returns-2)

@@ -17,4 +17,4 @@ returns c = search message-step
 
 pub after-message-spec : {M : Type 1} → statement M
 after-message-spec =
-    tie.close (tie.spec change-of-requires figures-after-requires after-message-requires returns)
+    tie.close (tie.spec change-of-requires figures-after-requires after-message-requires (λ c. search needs) returns)

@@ -21,4 +21,4 @@ returns c = search moment-step
 pub after-moment-spec : {M : Type 1} → statement M
 after-moment-spec =
     tie.close
-    (tie.spec own-time-requires change-at-requires figures-after-requires after-moment-requires returns)
+    (tie.spec own-time-requires change-at-requires figures-after-requires after-moment-requires (λ c. search needs) returns)
