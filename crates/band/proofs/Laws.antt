@@ -12,7 +12,9 @@ use lib.Dec.{ltb, eqb}
 use lib.ListN.{length}
 use Rattle.forms.proofs.Choice.{if-true, if-false, if-arms}
 use Rattle.forms.proofs.Promises.{agree}
-use Rattle.band.specs.Band.{small, percentOf, factorOf, spreadOf, cent, lowerOf, upperOf, minusOf, bandsBy, fits, printedOf, printedBy, distance, movesBy}
+use Rattle.band.specs.Band.{small, percentOf, factorOf, spreadOf, cent, lowerOf, upperOf, minusOf, bandsOf, bandsBy, fits, printedOf, printedBy, distance, movesBy}
+use Rattle.band.specs.declared.Bands.{Bands}
+use Rattle.band.specs.declared.Mean.{Mean}
 use Rattle.band.specs.Laws.{Within, Around, Ordered, WholeCents, UpperNotZero, UpperFits, MeanBetween, PrintedNear, PrintedBetween, Laws}
 use Rattle.band.proofs.Words.{cent-nearest, printed-given, percent-is, factor-is, fits-is, spread-is, cent-is, bands-are, printed-is, moves-is, bands-scaled, moves-scaled}
 use Rattle.band.proofs.Examples.{examples}
@@ -52,9 +54,16 @@ nearest x d h =
     (omega arith, omega arith)
 
 -- without a price nothing is divided, so there is nothing to round
-pub cent-of-none : (x d : ℕ) → d ≡ 0 → cent x d ≡ 0
+cent-of-none : (x d : ℕ) → d ≡ 0 → cent x d ≡ 0
 unfolding cent
 cent-of-none x d z = rw (z, div-zero)
+
+-- so the lower band is 0 and the upper one cent
+pub bands-of-none : (m : Mean) (p k : ℕ) → m .count ≡ 0 → _≡_ {A = Bands} (record { lower = 0; upper = 100 }) (bandsOf (m .sum) (m .count) p k)
+unfolding bandsOf lowerOf upperOf
+bands-of-none m p k z =
+    let a = spreadOf (m .sum) (m .count) p k in
+    simp (cent-of-none (100 * m .sum - a) (m .count) z, cent-of-none (100 * m .sum + a) (m .count) z, eq-eqb 0 0 refl, if-true)
 
 cent-mono : (x y d : ℕ) → x ≤ y → cent x d ≤ cent y d
 unfolding cent

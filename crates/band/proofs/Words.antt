@@ -56,9 +56,12 @@ pub fit-as-it-is : (m : Mean) → Fits m → fit m ≡ m
 unfolding fit
 fit-as-it-is m k = if-true _ _ _ (is-true _ (fits-decides m) k)
 
-pub fits-is : FitsIs
+pub fit-none : (m : Mean) → fits m ≡ false → fit m ≡ noMean
 unfolding fit
-fits-is m = (exactly-where (fits-decides m), fit-as-it-is m, λ n. if-false _ _ _ (is-false _ (fits-decides m) n))
+fit-none m n = if-false _ _ _ n
+
+pub fits-is : FitsIs
+fits-is m = (exactly-where (fits-decides m), fit-as-it-is m, λ n. fit-none m (is-false _ (fits-decides m) n))
 
 -- ------------------------------------------------------------------ A, and the cent
 

@@ -3,8 +3,9 @@
 -- Assumes nothing.
 use Prim.Native.Nat.{ℕ, _+_, _-_, _*_, _/_, min}
 use mathlib.Core.Bool.{Bool}
-use mathlib.Core.List.{[], _∷_}
+use mathlib.Core.List.{List, [], _∷_, foldl}
 use lib.Dec.{ltb, leb, eqb}
+use lib.ListN.{length}
 use Rattle.forms.specs.Choice.{if_then_else_, allOf, anyOf}
 use Rattle.band.specs.declared.Bands.{Bands}
 use Rattle.band.specs.declared.Mean.{Mean}
@@ -35,9 +36,13 @@ priceOf price = record { sum = price; count = 1 }
 abbrev pub noMean : Mean
 noMean = record { sum = 0; count = 0 }
 
+-- the exact mean of prices: their sum, and how many they are
+abbrev pub meanOfAll : List ℕ → Mean
+meanOfAll prices = record { sum = foldl _+_ 0 prices; count = length prices }
+
 -- whether the functions of src/lib.rt have room for a mean
 unfoldable pub fits : Mean → Bool
-fits m = allOf (leb (m .count) 1_000 ∷ leb (m .sum) (4_294_967_295 * m .count) ∷ [])
+fits m = allOf (ltb (m .sum) 17_592_186_044_416 ∷ ltb (m .count) 4_096 ∷ [])
 
 -- the mean, or none where they have no room for it
 unfoldable pub fit : Mean → Mean

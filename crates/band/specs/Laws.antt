@@ -1,16 +1,15 @@
 -- What the band arithmetic obeys. Each field is a theorem: `laws` of proofs/Laws.antt proves the record. `A ↔ B` is "A exactly where B": a law of
 -- that form determines a function's result by the words of Words.antt.
 -- Assumes nothing.
-use Prim.Native.Nat.{ℕ, _+_, _*_, _≤_}
+use Prim.Native.Nat.{ℕ, _*_, _≤_}
 use mathlib.Core.Bool.{true}
-use mathlib.Core.List.{List, [], _∷_, foldl}
+use mathlib.Core.List.{List, [], _∷_}
 use mathlib.Core.Logic.{_↔_}
 use mathlib.Core.Path.{_≡_}
-use lib.ListN.{length}
 use Rattle.forms.specs.Promises.{Determines}
 use Rattle.forms.specs.Tables.{every}
 use Rattle.forms.specs.Words.{Gives}
-use Rattle.band.specs.Band.{percentOf, factorOf, noMean, fits, fit, spreadOf, lowerOf, upperOf, minusOf, bandsOf, bandsBy, cent, printedOf, printedBy, distance, movesOf, movesBy}
+use Rattle.band.specs.Band.{percentOf, factorOf, noMean, meanOfAll, fits, fit, spreadOf, lowerOf, upperOf, minusOf, bandsOf, bandsBy, cent, printedOf, printedBy, distance, movesOf, movesBy}
 use Rattle.band.specs.Words.{percents, factors, Fits, spreads, NearestCent, AreBands, IsPrinted, OnePercent}
 use Rattle.band.specs.Examples.{right, byHand}
 use Rattle.band.specs.declared.Bands.{Bands}
@@ -20,10 +19,6 @@ use Rattle.band.specs.declared.Mean.{Mean}
 abbrev pub Within : ℕ → ℕ → List ℕ → Type 0
 Within low high [] = Unit {0}
 Within low high (price ∷ prices) = ((low ≤ price) × (price ≤ high)) × Within low high prices
-
--- the exact mean of prices
-abbrev pub meanOfAll : List ℕ → Mean
-meanOfAll prices = record { sum = foldl _+_ 0 prices; count = length prices }
 
 -- ------------------------------------------------------------------ what Band.antt computes, in words
 

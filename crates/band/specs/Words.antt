@@ -6,7 +6,7 @@
 -- is a row of a table: the number n, given where A holds and no row above does. A price is whole ten-thousandths of a dollar, and a
 -- reference is n / d.
 -- Assumes nothing.
-use Prim.Native.Nat.{ℕ, _+_, _-_, _*_, _≤_, _<_}
+use Prim.Native.Nat.{ℕ, _+_, _-_, _*_, _^_, _≤_, _<_}
 use mathlib.Core.List.{List, [], _∷_}
 use mathlib.Core.Path.{_≡_}
 use Rattle.forms.specs.Words.{_or_, _and_, Number, Gives, Otherwise}
@@ -34,9 +34,9 @@ factors leverage time end =
 
 -- ------------------------------------------------------------------ the means that the functions take
 
--- up to 1,000 prices of 32 bits: for these src/lib.rt has room, and a window has at most 512
+-- a sum of at most 44 bits and a count of at most 12: for these src/lib.rt has room; 512 prices of 32 bits have a sum of at most 41
 abbrev pub Fits : Mean → Type 0
-Fits m = m .count ≤ 1_000 and m .sum ≤ 4_294_967_295 * m .count
+Fits m = m .sum < 2 ^ 44 and m .count < 2 ^ 12
 
 -- ------------------------------------------------------------------ the bands of a reference n / d
 

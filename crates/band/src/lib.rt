@@ -1,8 +1,8 @@
 // Band arithmetic: percent, factor k, the bands, the printed value of a mean and the one percent test. No public
 // function has a `requires`: a definition of specs/Band.antt gives the result for every input.
 ghost use mathlib.Core.Path.{_≡_};
-ghost use Prim.Native.Nat.{_/_, _≤_, _<_, _^_};
-ghost use Rattle.band.specs.Band.{percentOf, factorOf, fits, fit, spreadOf, cent, minusOf, bandsBy, printedBy, movesBy};
+ghost use Prim.Native.Nat.{_≤_, _<_, _^_, min};
+ghost use Rattle.band.specs.Band.{percentOf, factorOf, fits, fit, spreadOf, cent, minusOf, bandsOf, bandsBy, printedBy, movesBy};
 ghost use Rattle.band.specs.Words.{Fits};
 
 // The percent value that means the small rule.
@@ -14,10 +14,14 @@ pub const DOUBLED_UNTIL: u32 = 900_000;
 // k is also doubled from this long before the session's end on.
 pub const DOUBLED_BEFORE_END: u64 = 1_500_000;
 
-// The arithmetic has room for a mean of this many prices of 32 bits; a window has at most 512.
-const MOST_PRICES: u64 = 1_000;
+// The arithmetic has room for a sum and a count below these, 2^44 and 2^12. The sum of 512 prices of 32 bits is below
+// 2^41.
+const SUM_BOUND: u64 = 17_592_186_044_416;
 
-// An exact mean: the sum of some prices, and how many they are. A price is the mean of itself alone, 0 by 0 is none.
+const COUNT_BOUND: u64 = 4_096;
+
+// An exact mean: the sum of some prices, and how many they are. A price is the mean of itself alone; none
+// has the sum 0 and the count 0.
 // The count has 64 bits too, so that no record that holds a mean has padding.
 #[repr(C)]
 pub struct Mean {
@@ -69,10 +73,7 @@ pub fn factor(leverage: u32, time: u32, end: u32) -> u8
 pub fn fits(m: Mean) -> bool
     ensures { λ r. ⌜ r ≡ fits m ⌝ }
 {
-    if MOST_PRICES < m.count {
-        return false;
-    }
-    m.sum <= 4_294_967_295 * m.count
+    (m.sum < SUM_BOUND) & (m.count < COUNT_BOUND)
 }
 
 // The mean, or none where there is no room for it.
@@ -85,40 +86,38 @@ fn fitted(m: Mean) -> Mean
     Mean { sum: 0, count: 0 }
 }
 
+// The lesser of two numbers.
+fn lesser(x: u64, y: u64) -> u64
+    ensures { λ r. ⌜ r ≡ min x y ⌝ }
+{
+    if y < x {
+        return y;
+    }
+    x
+}
+
 // A: how far the bands are from the reference, in hundredths of a price's unit, times the reference's count.
 fn spread(m: Mean, percent: u8, k: u8) -> u64
     requires { ⌜ Fits m ⌝ }
-    ensures { λ a. ⌜ (a ≡ spreadOf (m .sum) (m .count) percent k) × (a < 2 ^ 59) ⌝ }
+    ensures { λ a. ⌜ (a ≡ spreadOf (m .sum) (m .count) percent k) × (a < 2 ^ 60) ⌝ }
 {
     let f = k as u64;
     if percent == SMALL {
-        let most = 150_000 * m.count;
-        let s = 75 * m.sum;
-        if s < most {
-            return f * s;
-        }
-        return f * most;
+        return f * lesser(150_000 * m.count, 75 * m.sum);
     }
-    f * (percent as u64) * m.sum
+    f * ((percent as u64) * m.sum)
 }
 
-// x / count. A price alone is not divided, since a division takes the processor longer than the rest of a band.
-fn divided(x: u64, count: u64) -> u64
-    requires { ⌜ 1 ≤ count ⌝ }
-    ensures { λ r. ⌜ r ≡ x / count ⌝ }
-{
-    if count == 1 {
-        return x;
-    }
-    x / count
-}
-
-// Rounds x / count to the nearest cent, a half up.
+// Rounds x / count to the nearest cent, a half up. A price alone is divided by constants, which takes the processor
+// less time; it counts half cents there, because the compiler would join two divisions of one form.
 fn to_cent(x: u64, count: u64) -> u64
-    requires { ⌜ (x < 2 ^ 60) × (1 ≤ count) ⌝ }
+    requires { ⌜ (x < 2 ^ 61) × (1 ≤ count) × (count < 4_096) ⌝ }
     ensures { λ r. ⌜ r ≡ cent x count ⌝ }
 {
-    (divided(x, count) + 5_000) / 10_000 * 100
+    if count == 1 {
+        return (x / 5_000 + 1) / 2 * 100;
+    }
+    (x + 5_000 * count) / (10_000 * count) * 100
 }
 
 // The difference, or 0 where y is the greater.
@@ -131,11 +130,11 @@ pub fn minus(x: u64, y: u64) -> u64
     x - y
 }
 
-// The lower and the upper band of a reference, each rounded once.
-pub fn bands_of(reference: Mean, percent: u8, k: u8) -> Bands
-    ensures { λ b. ⌜ b ≡ bandsBy reference percent k ⌝ }
+// The lower and the upper band of a mean that fits.
+fn bands_around(m: Mean, percent: u8, k: u8) -> Bands
+    requires { ⌜ Fits m ⌝ }
+    ensures { λ b. ⌜ b ≡ bandsOf (m .sum) (m .count) percent k ⌝ }
 {
-    let m = fitted(reference);
     if m.count == 0 {
         return Bands {
             lower: 0,
@@ -152,16 +151,32 @@ pub fn bands_of(reference: Mean, percent: u8, k: u8) -> Bands
     Bands { lower, upper }
 }
 
+// The lower and the upper band of a reference, each rounded once.
+pub fn bands_of(reference: Mean, percent: u8, k: u8) -> Bands
+    ensures { λ b. ⌜ b ≡ bandsBy reference percent k ⌝ }
+{
+    if fits(reference) {
+        return bands_around(reference, percent, k);
+    }
+    Bands {
+        lower: 0,
+        upper: 100,
+    }
+}
+
 // The printed value of a mean: a whole price, a half rounded up; 0 where there is none. It divides first and rounds
-// by the remainder, so that nothing overflows.
+// by the remainder, so that nothing overflows; a price alone is not divided.
 pub fn printed(m: Mean) -> u64
     ensures { λ r. ⌜ r ≡ printedBy m ⌝ }
 {
     let c = m.count;
+    if c == 1 {
+        return m.sum;
+    }
     if c == 0 {
         return 0;
     }
-    let q = divided(m.sum, c);
+    let q = m.sum / c;
     let rest = m.sum - q * c;
     if rest < c - rest {
         return q;

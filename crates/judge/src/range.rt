@@ -85,14 +85,12 @@ pub(crate) fn bad_quotes(q: Quotes) -> bool
     or_not_sides(bad, offers)
 }
 
-// Whether a mean is of over 512 prices, or has a sum that so many prices cannot have.
+// Whether a mean is of over 512 prices, or has a sum that so many prices cannot have. Up to 512 the remainder is the
+// count itself; it keeps the product from overflowing without a branch.
 fn not_reference(m: Mean) -> bool
     ensures { λ r. ⌜ r ≡ notReference m ⌝ }
 {
-    if MOST_HELD < m.count {
-        return true;
-    }
-    (m.sum < m.count) | (HIGHEST * m.count < m.sum)
+    (MOST_HELD < m.count) | (m.sum < m.count) | (HIGHEST * (m.count % 1_024) < m.sum)
 }
 
 // Whether the reference is not one that prices can have, or missing where there must be one.

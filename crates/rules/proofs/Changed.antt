@@ -13,12 +13,12 @@ use Rattle.forms.specs.Choice.{if_then_else_, allOf, anyOf}
 use Rattle.forms.specs.Words.{_or_, _and_}
 use Rattle.forms.proofs.Choice.{if-true, if-false}
 use Rattle.forms.proofs.Decides.{Decides, words, is-true, is-false, either-way, by-le, by-eq, has, not-among}
-use Rattle.band.specs.Band.{priceOf, movesOf}
+use Rattle.band.specs.Band.{priceOf}
 use Rattle.band.proofs.Words.{moves-decides}
 use Rattle.band.specs.declared.Mean.{Mean}
 use Rattle.rules.specs.Stock.{Trade, Whole, Waiting, Trading, Limit, stateOf, is, at-time, in-state, refer-to, not-early, hold-ended, figuresOf, noTrades, meanIn}
 use Rattle.rules.specs.Quotes.{inForce, kTime, bandsIn, bestOf, flagged, atLimit}
-use Rattle.rules.specs.States.{look, begin-trading, leave, test}
+use Rattle.rules.specs.States.{look, begin-trading, leave, isFar, test}
 use Rattle.rules.specs.Moments.{mark-z, mark-w, mark-x, mark-p, mark-c, mark-v, mark-f, mark-h, first-five, effect, windowAfter, come, fire}
 use Rattle.rules.specs.Messages.{letter-T, letter-Q, letter-O, letter-P, letter-R, letter-X, tradeRules, quoteRules, with-quote, does, after}
 use Rattle.rules.specs.Numbers.{notice}
@@ -67,7 +67,7 @@ data Tested (w : List Trade) (s s′ : Stock) : Type 0 where
 
 tested : (w : List Trade) (s : Stock) → Tested w s (test (figuresOf w) s)
 unfolding test
-tested w s = go (allOf (is Trading s ∷ eqb (s .reference .hold) 0 ∷ not (noTrades (figuresOf w)) ∷ movesOf (r .sum) (r .count) (s .reference .price .sum) (s .reference .price .count) ∷ []))
+tested w s = go (allOf (is Trading s ∷ eqb (s .reference .hold) 0 ∷ not (noTrades (figuresOf w)) ∷ isFar r (s .reference .price) ∷ []))
     (search (words, moves-decides))
   where
     r : Mean

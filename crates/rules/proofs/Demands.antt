@@ -19,7 +19,7 @@ use Rattle.rules.proofs.Last.{quotes, clock, last-quotes}
 use Rattle.rules.proofs.Journal.{journal-is, journals-are}
 use Rattle.rules.proofs.Lawful.{machineLaws}
 use Rattle.rules.proofs.Looks.{looked-at}
-use Rattle.rules.proofs.Means.{mean}
+use Rattle.rules.proofs.Means.{mean, mean-between}
 use Rattle.rules.proofs.Next.{next-is, book-next, next-settles}
 use Rattle.rules.proofs.Numbers.{numbers, setup-numbers}
 use Rattle.rules.proofs.Only.{changes-only}
@@ -75,6 +75,7 @@ demands = record {
   kept = kept;
   changes-only = changes-only;
   mean = mean;
+  mean-between = mean-between;
   clock = clock;
   held-trades = held-trades;
   last-quotes = last-quotes;

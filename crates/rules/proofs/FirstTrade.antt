@@ -12,7 +12,7 @@ use Rattle.band.specs.Band.{priceOf}
 use Rattle.rules.specs.Stock.{Trade, Whole, Waiting, stateOf, clockOf, figuresOf, meanIn}
 use Rattle.rules.specs.Moments.{mark-f, momentTable, nextOf}
 use Rattle.rules.specs.Messages.{does, after}
-use Rattle.rules.specs.Numbers.{tells, fresh, notice}
+use Rattle.rules.specs.Numbers.{fresh, notice}
 use Rattle.rules.specs.Machine.{Event, message, moment, dated, Lawful, becomes, left}
 use Rattle.rules.specs.Book.{machine, Story}
 use Rattle.rules.specs.Words.{sumOf, IsPriceAlone}

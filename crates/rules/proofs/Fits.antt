@@ -14,7 +14,6 @@ use Rattle.forms.proofs.Decides.{either-way, by-eq, listed, numbersIn, past}
 use Rattle.band.specs.Band.{percentOf, factorOf, bandsOf}
 use Rattle.band.specs.declared.Bands.{Bands}
 use Rattle.band.proofs.Laws.{ordered, upper-fits, printed-most}
-use Rattle.band.specs.declared.Mean.{Mean}
 use Rattle.rules.specs.Stock.{Whole, Closed, stateOf}
 use Rattle.rules.specs.Quotes.{inForce, kTime, bandsIn, bestOf}
 use Rattle.rules.specs.Moments.{nextOf}

@@ -37,14 +37,15 @@
 --   Allowed end u es        es is a story of a stock with setup u and session's end `end`, in a row that the rules allow
 --   leaves end u es         the stock that the story es leaves
 -- Assumes nothing.
-use Prim.Native.Nat.{ℕ, _+_, _≤_, _<_}
+use Prim.Native.Nat.{ℕ, _+_, _*_, _≤_, _<_}
 use mathlib.Core.Bool.{true}
-use mathlib.Core.List.{List, [], _∷_, _++_, Sublistᴰ}
+use mathlib.Core.List.{List, [], _∷_, _++_, map, Sublistᴰ}
 use mathlib.Core.Logic.{_↔_, _⊎_}
 use mathlib.Core.Path.{_≡_}
 use lib.ListN.{length, getD, replicate}
 use Rattle.forms.specs.Tables.{every}
 use Rattle.forms.specs.Words.{_or_, _and_, IsOneOf, Gives}
+use Rattle.band.specs.Laws.{Within}
 use Rattle.band.specs.declared.Bands.{Bands}
 use Rattle.rules.specs.Stock.{Trade, Whole, Waiting, Trading, Limit, Paused, Late, Closed, stateOf, clockOf, figuresOf, meanIn}
 use Rattle.rules.specs.Moments.{mark-f, fire}
@@ -373,6 +374,11 @@ ChangesOnly = (h : Whole) (e : Event Message Notice) → CanHappen h e → lengt
 abbrev pub MeanIs : Type 0
 MeanIs = (w : List Trade) → 1 ≤ length w → IsMean w (meanIn (figuresOf w))
 
+-- It lies within any bounds of the prices, so between the least and the greatest: each bound times the count bounds the sum.
+abbrev pub MeanBetween : Type 0
+MeanBetween = (low high : ℕ) (w : List Trade) → Within low high (map (λ t. t .price) w)
+    → let m = meanIn (figuresOf w) in low * m .count ≤ m .sum and m .sum ≤ high * m .count
+
 -- ---------------------------------------------------------------- a stock, read off its story
 
 -- The clock is the date of the last event; the setup and the session's end are those of the beginning.
@@ -554,6 +560,7 @@ pub record Demands : Type 1 where
   pub kept : KeptIs
   pub changes-only : ChangesOnly
   pub mean : MeanIs
+  pub mean-between : MeanBetween
   pub clock : ClockIs
   pub held-trades : HeldTrades
   pub last-quotes : LastQuotes

@@ -13,7 +13,7 @@ use Rattle.rules.specs.Numbers.{fresh, printedReference}
 use Rattle.rules.specs.Book.{noSetup}
 
 pub data Row : Type 0 where
-  -- a row of the band arithmetic: B1 to B9 and B11
+  -- a row of the band arithmetic: B1 to B11
   arithmetic : Examples.Row → Row
   -- B10 and B11: in Trading with the hold ended, a reference n / d and a window of c trades with sum m; the reference's sum and count after the
   -- Test, and its printed value

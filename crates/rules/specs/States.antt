@@ -1,7 +1,7 @@
 -- The state rules (document 01, "States"; for pauses and closing, "Moments"). Of the window they use only the figures.
 -- Assumes nothing.
-use Prim.Native.Nat.{ℕ, _-_}
-use mathlib.Core.Bool.{not}
+use Prim.Native.Nat.{_-_}
+use mathlib.Core.Bool.{Bool, not}
 use mathlib.Core.List.{[], _∷_}
 use lib.Dec.{leb, eqb}
 use lib.ListN.{replicate}
@@ -26,13 +26,15 @@ begin-trading price s = look (in-state Trading (refer-to price s))
 unfoldable pub leave : Figures → Stock → Stock
 leave f s = if atLimit s then s else begin-trading (if noTrades f then s .reference .price else meanIn f) s
 
--- Test: in Trading, with the hold ended and a trade in the window, a mean one percent away becomes the reference; nothing is rounded.
+-- whether a mean is one percent of the reference or more away from it; nothing is rounded (R-3)
+abbrev pub isFar : Mean → Mean → Bool
+isFar mean reference = movesOf (mean .sum) (mean .count) (reference .sum) (reference .count)
+
+-- Test: in Trading, with the hold ended and a trade in the window, a mean one percent away becomes the reference.
 unfoldable pub test : Figures → Stock → Stock
 test f s =
-    let mean = meanIn f in
-    let reference = s .reference .price in
-    if allOf (is Trading s ∷ eqb (s .reference .hold) 0 ∷ not (noTrades f) ∷ movesOf (mean .sum) (mean .count) (reference .sum) (reference .count) ∷ [])
-    then look (refer-to mean s) else s
+    if allOf (is Trading s ∷ eqb (s .reference .hold) 0 ∷ not (noTrades f) ∷ isFar (meanIn f) (s .reference .price) ∷ [])
+    then look (refer-to (meanIn f) s) else s
 
 -- a pause starts now; from E - 600,000 on it is a Late pause
 unfoldable pub begin-pause : Stock → Stock

@@ -226,7 +226,7 @@ abbrev pub BadQuote : Quotes → Type 0
 BadQuote q = Some (λ bid. ¬ IsSide bid) (q .bids) or Some (λ offer. ¬ IsSide offer) (q .offers)
 
 -- a reference is that of at most 512 prices, and its sum is one that so many prices can have: from the count up to 999,999,999 times the count; none
--- is 0 by 0
+-- has the sum 0 and the count 0
 abbrev pub IsReference : Mean → Type 0
 IsReference m = m .count ≤ 512 and m .count ≤ m .sum and m .sum ≤ 999_999_999 * m .count
 

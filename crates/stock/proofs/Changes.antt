@@ -120,7 +120,7 @@ module _ (f : Figures) (ts ps : List ℕ) (k : Held f ts ps) where
         let few = of-count in
         let counted = length-trades (f .count) ts ps in
         let dropped = length-drop gone w in
-        record { figures = rw q is; small = rw is (omega arith, omega (arith, rest-most _ gone w (k .good .1))) }
+        record { figures = rw q is; small = rw is (omega (arith, rest-most _ gone w (k .good .1)), omega arith) }
 
     pub emptied : change ≡ Empty → Changed change (f .count) ts ps (record { count = 0; oldest = 0; sum = 0 })
     unfolding changed figuresOf total oldest

@@ -51,17 +51,17 @@ unfoldable pub settleNumber : ℕ → Sight → Stock → ℕ
 settleNumber time g s = if g .sound then first (timeChecks time (g .earliest) s) else 1
 
 -- the printed reference of a stock
-abbrev pub printedOf : Kept → ℕ
-printedOf k = printedReference (bare k)
+abbrev pub printedIn : Kept → ℕ
+printedIn k = printedReference (bare k)
 
 -- the printed reference and the bands that are shown fit 32 bits
 abbrev pub Fits : Kept → Shown → Type 0
-Fits k s = (printedOf k < 2 ^ 32) × (s .bands .lower < 2 ^ 32) × (s .bands .upper < 2 ^ 32)
+Fits k s = (printedIn k < 2 ^ 32) × (s .bands .lower < 2 ^ 32) × (s .bands .upper < 2 ^ 32)
 
 -- a number with what is shown of a stock
 abbrev pub answerBy : ℕ → Kept → Shown → Answer
 answerBy number k s =
-    record { number = number; state = k .course .state; reference = printedOf k; lower = s .bands .lower; upper = s .bands .upper; best = s .best }
+    record { number = number; state = k .course .state; reference = printedIn k; lower = s .bands .lower; upper = s .bands .upper; best = s .best }
 
 -- ------------------------------------------------------------------ a step, before a place is written
 

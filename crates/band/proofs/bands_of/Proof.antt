@@ -1,49 +1,25 @@
 use borrow.Author.Needs.{needs}
-use borrow.Author.Tests.{eq-eqb, ne-eqb}
-use mathlib.Core.Path.{_≡_, refl, _∙_}
-use Prim.Native.Nat.{ℕ, _+_, _-_, _*_}
-use Rattle.forms.proofs.Choice.{if-true, if-false}
-use Rattle.band.specs.Band.{fit, spreadOf, cent, bandsOf, lowerOf, upperOf}
+use mathlib.Core.Bool.{Bool, true, false}
+use mathlib.Core.Path.{_≡_, refl, sym, _∙_}
+use Prim.Native.Nat.{ℕ}
+use Rattle.band.specs.Band.{fits, noMean, bandsOf, bandsBy}
+use Rattle.band.specs.Words.{Fits}
 use Rattle.band.specs.declared.Bands.{Bands}
 use Rattle.band.specs.declared.Mean.{Mean}
-use Rattle.band.proofs.Laws.{cent-of-none}
+use Rattle.band.proofs.Words.{fits-decides, fit-as-it-is, fit-none}
+use Rattle.band.proofs.Laws.{bands-of-none}
 use Rattle.band.proofs.bands_of.Statement.{statement}
 use Rattle.band.proofs.bands_of.Tie as tie
 
-module _ (reference m : Mean) (p k : ℕ) (em : m ≡ fit reference) where
-  none : m .count ≡ 0 → _≡_ {A = Bands} (record { lower = 0; upper = 100 }) (bandsOf (fit reference .sum) (fit reference .count) p k)
-  unfolding bandsOf lowerOf upperOf
-  none z =
-      let a = spreadOf (m .sum) (m .count) p k in
-      rw (← em) (simp (cent-of-none (100 * m .sum - a) (m .count) z, cent-of-none (100 * m .sum + a) (m .count) z, eq-eqb 0 0 refl, if-true))
+module _ (room : Bool) (m : Mean) (e : room ≡ fits m) where
+  taken : room ≡ true → Fits m
+  taken y = fits-decides m .holds (sym e ∙ y)
 
-  -- what the calls promise, and the upper band that follows from whether it is 0
-  module _ (a l u less : ℕ) (ea : a ≡ spreadOf (m .sum) (m .count) p k) (es : less ≡ 100 * m .sum - a) (el : l ≡ cent less (m .count))
-      (eu : u ≡ cent (100 * m .sum + a) (m .count)) where
-    floored : u ≡ 0 → _≡_ {A = Bands} (record { lower = l; upper = 100 }) (bandsOf (fit reference .sum) (fit reference .count) p k)
-    unfolding bandsOf lowerOf upperOf
-    floored z =
-        let t : cent (100 * m .sum + spreadOf (m .sum) (m .count) p k) (m .count) ≡ 0 = cc in
-        rw (← em) (simp (el, es, ea, eq-eqb _ _ t, if-true))
+  drawn : (p k : ℕ) (b : Bands) → room ≡ true → b ≡ bandsOf (m .sum) (m .count) p k → b ≡ bandsBy m p k
+  drawn p k b y d = rw (fit-as-it-is m (taken y)) d
 
-    plain : (u ≡ 0 → ⊥) → _≡_ {A = Bands} (record { lower = l; upper = u }) (bandsOf (fit reference .sum) (fit reference .count) p k)
-    unfolding bandsOf lowerOf upperOf
-    plain z =
-        let q : u ≡ cent (100 * m .sum + spreadOf (m .sum) (m .count) p k) (m .count) = cc in
-        let t : cent (100 * m .sum + spreadOf (m .sum) (m .count) p k) (m .count) ≡ 0 → ⊥ = λ e. z (q ∙ e) in
-        rw (← em) (simp (el, es, eu, ea, ne-eqb _ _ t, if-false))
+  none : (p k : ℕ) → room ≡ false → _≡_ {A = Bands} (record { lower = 0; upper = 100 }) (bandsBy m p k)
+  none p k n = rw (fit-none m (sym e ∙ n)) (bands-of-none noMean p k refl)
 
 pub bands-of-spec : {M : Type 1} → statement M
-bands-of-spec =
-    tie.close
-    (tie.spec
-    (λ c κs. search needs)
-    (λ c. search none)
-    (λ c κs. search needs)
-    (λ c. search needs)
-    (λ c κs. search needs)
-    (λ c κs. search needs)
-    (λ c. search needs)
-    (λ c κs. search needs)
-    (λ c. search floored)
-    (λ c. search plain))
+bands-of-spec = tie.close (tie.spec (λ c κs. search needs) (λ c κs. search taken) (λ c. search drawn) (λ c. search none))

@@ -1,5 +1,5 @@
 use borrow.Author.Needs.{needs}
-use mathlib.Core.Path.{_≡_, ap₂}
+use mathlib.Core.Path.{_≡_}
 use native.Mathlib.Omega.{arith}
 use native.Mathlib.Nat.{mul-le-mul}
 use mir.Syntax.{w64}
@@ -15,8 +15,9 @@ use Rattle.band.proofs.moves.Tie as tie
 -- a sum times the other count has room, also a hundred times
 room : (m n : Mean) → Fits m → Fits n → 100 * (m .sum * n .count) < 2 ^ 64
 room m n f g =
-    let sum : m .sum ≤ 4_294_967_295_000 = omega (arith, f .0, f .1) in
-    let most : m .sum * n .count ≤ 4_294_967_295_000 * 1_000 = mul-le-mul sum (g .0) in
+    let sum : m .sum ≤ 2 ^ 44 = omega (arith, f .0) in
+    let count : n .count ≤ 2 ^ 12 = omega (arith, g .1) in
+    let most : m .sum * n .count ≤ 2 ^ 44 * 2 ^ 12 = mul-le-mul sum count in
     omega arith
 
 product : (m n : Mean) → Fits m → Fits n → val.Fits w64 (m .sum * n .count)

@@ -4,11 +4,11 @@ use mathlib.Core.Path.{_≡_}
 use Rattle.rules.specs.declared.Answer.{Answer}
 use Rattle.quotes.specs.declared.Kept.{Kept}
 use Rattle.quotes.specs.declared.Shown.{Shown}
-use Rattle.stock.specs.Steps.{printedOf, answerBy}
+use Rattle.stock.specs.Steps.{printedIn, answerBy}
 use Rattle.stock.proofs.answers.with_shown.Statement.{statement}
 use Rattle.stock.proofs.answers.with_shown.Tie as tie
 
-put : (number reference : ℕ) (k : Kept) (s : Shown) → reference ≡ printedOf k
+put : (number reference : ℕ) (k : Kept) (s : Shown) → reference ≡ printedIn k
     → _≡_ {A = Answer}
     (record { number = number; state = k .course .state; reference = reference; lower = s .bands .lower; upper = s .bands .upper; best = s .best })
     (answerBy number k s)
