@@ -1,6 +1,6 @@
 -- The band arithmetic in words (document 01, "Band arithmetic"), and the one percent test ("States"). Each name is a proposition over numbers, or
--- a table of such; from Band.antt they use only the name `small`. The laws `percent-is`, `factor-is`, `spread-is`, `cent-is`, `bands-are`,
--- `printed-is` and `moves-is` say that Band.antt computes this.
+-- a table of such; from Band.antt they use only the name `small`. The laws `percent-is`, `factor-is`, `fits-is`, `spread-is`, `cent-is`,
+-- `bands-are`, `printed-is` and `moves-is` say that Band.antt computes this.
 --
 -- To read it: `A and B`, `A or B`, `¬ A` are "and", "or", "not"; `a ≡ b` is "equals"; `(x : ℕ) × A` is "there is a number x with A"; `n for A`
 -- is a row of a table: the number n, given where A holds and no row above does. A price is whole ten-thousandths of a dollar, and a

@@ -20,9 +20,8 @@ const SUM_BOUND: u64 = 17_592_186_044_416;
 
 const COUNT_BOUND: u64 = 4_096;
 
-// An exact mean: the sum of some prices, and how many they are. A price is the mean of itself alone; none
-// has the sum 0 and the count 0.
-// The count has 64 bits too, so that no record that holds a mean has padding.
+// An exact mean: the sum of some prices, and how many they are. A price is the mean of itself alone; none has the sum
+// 0 and the count 0. The count has 64 bits too, so that no record that holds a mean has padding.
 #[repr(C)]
 pub struct Mean {
     pub sum: u64,
@@ -109,7 +108,7 @@ fn spread(m: Mean, percent: u8, k: u8) -> u64
 }
 
 // Rounds x / count to the nearest cent, a half up. A price alone is divided by constants, which takes the processor
-// less time; it counts half cents there, because the compiler would join two divisions of one form.
+// less time; there half cents are counted, since the compiler would join two divisions of the same form.
 fn to_cent(x: u64, count: u64) -> u64
     requires { ⌜ (x < 2 ^ 61) × (1 ≤ count) × (count < 4_096) ⌝ }
     ensures { λ r. ⌜ r ≡ cent x count ⌝ }
@@ -151,7 +150,7 @@ fn bands_around(m: Mean, percent: u8, k: u8) -> Bands
     Bands { lower, upper }
 }
 
-// The lower and the upper band of a reference, each rounded once.
+// The lower and the upper band of a reference, each rounded once; those of none where there is no room for it.
 pub fn bands_of(reference: Mean, percent: u8, k: u8) -> Bands
     ensures { λ b. ⌜ b ≡ bandsBy reference percent k ⌝ }
 {

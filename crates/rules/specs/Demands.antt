@@ -374,7 +374,7 @@ ChangesOnly = (h : Whole) (e : Event Message Notice) → CanHappen h e → lengt
 abbrev pub MeanIs : Type 0
 MeanIs = (w : List Trade) → 1 ≤ length w → IsMean w (meanIn (figuresOf w))
 
--- It lies within any bounds of the prices, so between the least and the greatest: each bound times the count bounds the sum.
+-- The mean of a window lies within any bounds of its prices, so between the least and the greatest: each bound times the count bounds the sum.
 abbrev pub MeanBetween : Type 0
 MeanBetween = (low high : ℕ) (w : List Trade) → Within low high (map (λ t. t .price) w)
     → let m = meanIn (figuresOf w) in low * m .count ≤ m .sum and m .sum ≤ high * m .count
