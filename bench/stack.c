@@ -15,7 +15,7 @@
 
 enum { SIZE = 1 << 16, PATTERN = 0xa5, STOCKS = SUMPHERON_MOST_STOCKS, HELD = SUMPHERON_PLACES };
 enum { END = 23400000, NOON = 1000000, PRICE = 100000 };
-enum function { KNOWN, VERSION, SETUP, SETTLE, READ, NEXT, TRADE, QUOTE, OPENING, PAUSE, REOPENING, CLOSING, FUNCTIONS };
+enum function { KNOWN, VERSION, SETUP, SETTLE, READ, NEXT, TOTALS, TRADE, QUOTE, OPENING, PAUSE, REOPENING, CLOSING, FUNCTIONS };
 
 /* ---------------------------------------------------------------- entry to a function */
 
@@ -55,6 +55,7 @@ THROUGH(setup, setup);
 THROUGH(settle, settle);
 THROUGH(read, read);
 THROUGH(next, next);
+THROUGH(totals, totals);
 THROUGH(trade, trade);
 THROUGH(quote, quote);
 THROUGH(opening, opening);
@@ -69,6 +70,7 @@ static const struct { const char *name; routine *code; } functions[FUNCTIONS] = 
     [SETTLE] = {"settle", (routine *)sumpheron_settle},
     [READ] = {"read", (routine *)sumpheron_read},
     [NEXT] = {"next", (routine *)sumpheron_next},
+    [TOTALS] = {"totals", (routine *)sumpheron_totals},
     [TRADE] = {"trade", (routine *)sumpheron_trade},
     [QUOTE] = {"quote", (routine *)sumpheron_quote},
     [OPENING] = {"opening", (routine *)sumpheron_opening},
@@ -100,6 +102,7 @@ static void perform(void)
     case SETTLE: number = through_settle(BOOK, 0, call.time).answer.number; break;
     case READ: number = through_read(BOOK, 0).number; break;
     case NEXT: number = through_next(BOOK, 0).number; break;
+    case TOTALS: number = through_totals(BOOK, 0).number; break;
     case TRADE: number = through_trade(BOOK, 0, call.time, call.price).number; break;
     case QUOTE: number = through_quote(BOOK, 0, call.time, call.participant, 0, call.price).number; break;
     case OPENING: number = through_opening(BOOK, 0, call.time, call.participant, call.price).number; break;
@@ -169,6 +172,7 @@ static void prepare(uint32_t time, uint32_t held, uint32_t price)
         run(TRADE, time + i, price, SUMPHERON_TRADING);
     run(READ, 0, 0, SUMPHERON_TRADING);
     run(NEXT, 0, 0, SUMPHERON_TRADING);
+    run(TOTALS, 0, 0, SUMPHERON_TRADING);
 }
 
 /* An offer at the lower band of the reference 100,000, while another stands at that of 99,500, the trades' mean. */

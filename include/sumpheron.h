@@ -5,8 +5,9 @@
  * with SUMPHERON_PLACES numbers for each stock. Every call takes the three arrays with their lengths, keeps no pointer and no state of
  * its own, and allocates nothing. Array contents need no validation: bad input is refused by a number (enum sumpheron_number), and a
  * refusal changes no byte. The caller must pass valid pointers: none is null, each is aligned for its type and has as many elements
- * as its length says, and no two arrays of one call overlap. Calls on one book must not run concurrently; only sumpheron_read and
- * sumpheron_next, which change nothing, may run concurrently with each other. Calls on different books may run concurrently.
+ * as its length says, and no two arrays of one call overlap. Calls on one book must not run concurrently; only sumpheron_read,
+ * sumpheron_next and sumpheron_totals, which change nothing, may run concurrently with each other. Calls on different books may run
+ * concurrently.
  *
  * A price is a number of ten-thousandths of a dollar, from 1 to 999,999,999; in quotes and answers, 0 means that there is no price. A
  * time is a number of milliseconds since the session began, at most the session's end + 300,000.
@@ -57,7 +58,7 @@ extern "C" {
 
 /* Incremented whenever a struct, a function or a number changes. Do not mix a header and a library of different versions: the library
  * writes answers of the size that it was built with, and can overrun your struct. */
-#define SUMPHERON_VERSION 4
+#define SUMPHERON_VERSION 5
 
 /* Marks functions whose result must be used: the compiler warns if a caller ignores it. */
 #if (defined __cplusplus && __cplusplus >= 201703L) || (defined __STDC_VERSION__ && __STDC_VERSION__ >= 202000L)
@@ -193,7 +194,28 @@ enum sumpheron_mark {
 
 /* ---------------------------------------------------------------- structs: unsigned numbers, without padding */
 
-/* A stock's record: 200 bytes, aligned to 8. The caller owns the memory, and only the library writes it. Use the answers to learn about
+/* How long a stock was in each state, in milliseconds. The six times add up to the stock's clock. */
+struct sumpheron_state_times {
+    uint32_t waiting;
+    uint32_t trading;
+    uint32_t limit;
+    uint32_t paused;
+    uint32_t late_pause;
+    uint32_t closed;
+};
+
+/* A stock's day totals, as of its last accepted message or settled moment; all of them are 0 after setup. */
+struct sumpheron_day_totals {
+    struct sumpheron_state_times spent;
+    /* how many limit states began, and how many pauses, late ones too; each count stops at 4,294,967,295 */
+    uint32_t limit_states;
+    uint32_t pauses;
+    /* the highest and the lowest price of an accepted trade (T; not of O or R), both 0 until there is one */
+    uint32_t highest;
+    uint32_t lowest;
+};
+
+/* A stock's record: 240 bytes, aligned to 8. The caller owns the memory, and only the library writes it. Use the answers to learn about
  * a stock; the field names are for reading a dump (docs/RECORD.md). The stock's trades are in the arrays of times and prices: the
  * first `trades` of its places, oldest first. */
 struct sumpheron_record {
@@ -225,6 +247,8 @@ struct sumpheron_record {
     uint32_t offers[SUMPHERON_PARTICIPANTS];
     /* how many trades are held */
     uint64_t trades;
+    /* what sumpheron_totals returns */
+    struct sumpheron_day_totals totals;
 };
 
 /* What a call returns: its number, and the stock's values after the call. A refusal leaves the values unchanged. After 1, 2 and 3
@@ -262,6 +286,13 @@ struct sumpheron_upcoming {
     /* enum sumpheron_mark */
     uint32_t mark;
     uint32_t time;
+};
+
+/* A stock's day totals, with number 0. After the numbers 1 and 3 all totals are 0. */
+struct sumpheron_summary {
+    /* enum sumpheron_number */
+    uint32_t number;
+    struct sumpheron_day_totals totals;
 };
 
 /* ---------------------------------------------------------------- matching */
@@ -382,6 +413,13 @@ SUMPHERON_MUST_USE struct sumpheron_answer sumpheron_read(
 /* Returns the stock's earliest moment that is still to come, and changes nothing. Settling to its time or later does that moment;
  * settling to an earlier time answers 14. Ask again after any accepted call on the stock, since another moment may come first then. */
 SUMPHERON_MUST_USE struct sumpheron_upcoming sumpheron_next(
+    const struct sumpheron_record *book, size_t stocks,
+    const uint32_t *times, size_t times_length, const uint32_t *prices, size_t prices_length,
+    uint32_t stock);
+
+/* Returns the stock's day totals, and changes nothing. They are as of the stock's last accepted call: the time since then is in none of
+ * the six, and belongs to the state that this call left, up to the stock's next moment. */
+SUMPHERON_MUST_USE struct sumpheron_summary sumpheron_totals(
     const struct sumpheron_record *book, size_t stocks,
     const uint32_t *times, size_t times_length, const uint32_t *prices, size_t prices_length,
     uint32_t stock);

@@ -11,6 +11,7 @@ void ignore(struct sumpheron_record *book, uint32_t *times, uint32_t *prices, co
     sumpheron_settle(BOOK, 0, 1000);
     sumpheron_read(BOOK, 0);
     sumpheron_next(BOOK, 0);
+    sumpheron_totals(BOOK, 0);
     sumpheron_trade(BOOK, 0, 1000, 115000);
     sumpheron_quote(BOOK, 0, 1000, 5, 115000, 0);
     sumpheron_opening(BOOK, 0, 1000, 2, 115000);

@@ -26,12 +26,17 @@ struct field {
 #define FIELD(of, member) {#of "." #member, offsetof(struct sumpheron_##of, member), SIZE(of, member)}
 #define FOUR(member, i) FIELD(record, member[i]), FIELD(record, member[i + 1]), FIELD(record, member[i + 2]), FIELD(record, member[i + 3])
 #define SIXTEEN(member) FOUR(member, 0), FOUR(member, 4), FOUR(member, 8), FOUR(member, 12)
+#define TOTALS(of) \
+    FIELD(of, totals.spent.waiting), FIELD(of, totals.spent.trading), FIELD(of, totals.spent.limit), FIELD(of, totals.spent.paused), \
+    FIELD(of, totals.spent.late_pause), FIELD(of, totals.spent.closed), FIELD(of, totals.limit_states), FIELD(of, totals.pauses), \
+    FIELD(of, totals.highest), FIELD(of, totals.lowest)
 
 static const struct field RECORD[] = {
     FIELD(record, tier), FIELD(record, leverage), FIELD(record, primary), FIELD(record, close),
     FIELD(record, session_end), FIELD(record, state), FIELD(record, clock), FIELD(record, f_to_come),
     FIELD(record, limit_entry), FIELD(record, pause_start), FIELD(record, reference_sum), FIELD(record, reference_count),
-    FIELD(record, reference_start), FIELD(record, h_to_come), SIXTEEN(bids), SIXTEEN(offers), FIELD(record, trades)};
+    FIELD(record, reference_start), FIELD(record, h_to_come), SIXTEEN(bids), SIXTEEN(offers), FIELD(record, trades),
+    TOTALS(record)};
 
 static const struct field ANSWER[] = {
     FIELD(answer, number), FIELD(answer, state), FIELD(answer, reference),
@@ -46,24 +51,34 @@ static const struct field NOTICE[] = {
 
 static const struct field UPCOMING[] = {FIELD(upcoming, number), FIELD(upcoming, mark), FIELD(upcoming, time)};
 
+static const struct field SUMMARY[] = {FIELD(summary, number), TOTALS(summary)};
+
 /* No struct has padding: the sizes of its fields add up to the size of the struct. */
 static_assert(SIZE(record, tier) + SIZE(record, leverage) + SIZE(record, primary) + SIZE(record, close) + SIZE(record, session_end) +
                   SIZE(record, state) + SIZE(record, clock) + SIZE(record, f_to_come) + SIZE(record, limit_entry) + SIZE(record, pause_start) +
                   SIZE(record, reference_sum) + SIZE(record, reference_count) + SIZE(record, reference_start) + SIZE(record, h_to_come) +
-                  SIZE(record, bids) + SIZE(record, offers) + SIZE(record, trades) == sizeof(struct sumpheron_record), "a record has padding");
+                  SIZE(record, bids) + SIZE(record, offers) + SIZE(record, trades) + SIZE(record, totals) ==
+                  sizeof(struct sumpheron_record), "a record has padding");
+static_assert(SIZE(state_times, waiting) + SIZE(state_times, trading) + SIZE(state_times, limit) + SIZE(state_times, paused) +
+                  SIZE(state_times, late_pause) + SIZE(state_times, closed) == sizeof(struct sumpheron_state_times),
+              "the times of the states have padding");
+static_assert(SIZE(day_totals, spent) + SIZE(day_totals, limit_states) + SIZE(day_totals, pauses) + SIZE(day_totals, highest) +
+                  SIZE(day_totals, lowest) == sizeof(struct sumpheron_day_totals), "day totals have padding");
 static_assert(SIZE(answer, number) + SIZE(answer, state) + SIZE(answer, reference) + SIZE(answer, lower) + SIZE(answer, upper) +
                   SIZE(answer, bid) + SIZE(answer, bid_flag) + SIZE(answer, offer) + SIZE(answer, offer_flag) ==
                   sizeof(struct sumpheron_answer), "an answer has padding");
 static_assert(SIZE(notice, answer) + SIZE(notice, mark) + SIZE(notice, time) == sizeof(struct sumpheron_notice), "a notice has padding");
 static_assert(SIZE(upcoming, number) + SIZE(upcoming, mark) + SIZE(upcoming, time) == sizeof(struct sumpheron_upcoming),
               "what comes next has padding");
+static_assert(SIZE(summary, number) + SIZE(summary, totals) == sizeof(struct sumpheron_summary), "a summary has padding");
 
 /* The size and the alignment that docs/RECORD.md says. */
-static_assert(sizeof(struct sumpheron_record) == 200 && alignof(struct sumpheron_record) == 8, "a record has another size or alignment");
+static_assert(sizeof(struct sumpheron_record) == 240 && alignof(struct sumpheron_record) == 8, "a record has another size or alignment");
 static_assert(sizeof(struct sumpheron_answer) == 36 && alignof(struct sumpheron_answer) == 4, "an answer has another size or alignment");
 static_assert(sizeof(struct sumpheron_notice) == 44 && alignof(struct sumpheron_notice) == 4, "a notice has another size or alignment");
 static_assert(sizeof(struct sumpheron_upcoming) == 12 && alignof(struct sumpheron_upcoming) == 4,
               "what comes next has another size or alignment");
+static_assert(sizeof(struct sumpheron_summary) == 44 && alignof(struct sumpheron_summary) == 4, "a summary has another size or alignment");
 
 /* ---------------------------------------------------------------- the values that the day must give */
 
@@ -72,15 +87,22 @@ static_assert(sizeof(struct sumpheron_upcoming) == 12 && alignof(struct sumphero
 static const uint32_t PRICES[] = {600000001, 600000002, 600000003, 600000004, 600000005,
                                   600000006, 600000007, 648000003, 606000001, 606000002};
 
-/* Stock 0 as it was set up, and stock 1 at the end. */
+/* The totals of stock 1 at the end: it waited to 1,001, traded to 2,002, was at a limit to 2,005, traded to 2,010, was at a limit to 17,010,
+ * paused to 317,020, traded to 3,090,002, was at a limit to 3,105,002, and was then in a late pause to 3,150,003. */
+#define LAST_TOTALS 1001, 2773988, 30003, 300010, 45001, 0, 3, 2, 648000003, 600000001
+
+/* Stock 0 as it was set up, and stock 1 after its opening and at the end. */
 static const uint64_t RECORDS[][LENGTH(RECORD)] = {
     {1, 1, 6, 31000, 3700000, 0, 0, 1},
+    {2, 3, 9, 115000, 3700000, 1, 1001, 1, 0, 0, 600000000, 1, 1001, 1,
+     0, 0, 0, 0, 0, 0, 0, 0, 0, 0, 0, 0, 0, 0, 0, 0, 0, 0, 0, 0, 0, 0, 0, 0, 0, 0, 0, 0, 0, 0, 0, 0,
+     1, 1001},
     {2, 3, 9, 115000, 3700000, 4, 3150003, 1, 3090002, 3105002, 4848000031, 8, 3050008, 0,
      969599985, 969599986, 969599987, 969599988, 969599989, 969599990, 969599991, 969599992,
      969599993, 969599994, 969599995, 969599996, 969599997, 969599998, 969599999, 969600000,
      969600001, 969600002, 969600003, 969600004, 969600005, 969600006, 969600007, 969600008,
      969600009, 969600010, 969600011, 969600012, 969600013, 969600014, 969600015, 969600016,
-     LENGTH(PRICES)}};
+     LENGTH(PRICES), LAST_TOTALS}};
 
 /* Reading in Trading, and a trade outside the bands in Limit. The reference of 606,000,003.875 is rounded. */
 static const uint64_t ANSWERS[][LENGTH(ANSWER)] = {
@@ -95,7 +117,10 @@ static const uint64_t NOTICES[][LENGTH(NOTICE)] = {
 /* The next moment in Trading: the first trade leaves. */
 static const uint64_t NEXT[LENGTH(UPCOMING)] = {0, 0x76, 3350001};
 
-/* Any call on a book that is not set up. */
+/* The totals at the end, and those of a book that is not set up. */
+static const uint64_t SUMMARIES[][LENGTH(SUMMARY)] = {{0, LAST_TOTALS}, {1}};
+
+/* Any other call on a book that is not set up. */
 static const uint64_t RUBBISH[LENGTH(NOTICE)] = {1};
 
 /* ---------------------------------------------------------------- the memory that the library gets */
@@ -108,8 +133,6 @@ enum {
     NUMBERS = STOCKS * sizeof(struct sumpheron_record) / sizeof(uint32_t),
     PLACES = STOCKS * SUMPHERON_PLACES,
     HELD = LENGTH(PRICES),
-    /* the moments between the opening and the first trade: h, v, w, w */
-    DUE = 4,
     ROOM = 256
 };
 static const uint32_t PATTERN = 0xa5a5a5a5;
@@ -235,6 +258,8 @@ void write_trade(void *answer, struct sumpheron_record *book, size_t stocks, uin
                  uint32_t *prices, size_t prices_length, uint32_t stock, uint32_t time, uint32_t price) __asm__("sumpheron_trade");
 void write_settle(void *notice, struct sumpheron_record *book, size_t stocks, uint32_t *times, size_t times_length,
                   uint32_t *prices, size_t prices_length, uint32_t stock, uint32_t time) __asm__("sumpheron_settle");
+void write_totals(void *summary, const struct sumpheron_record *book, size_t stocks, const uint32_t *times, size_t times_length,
+                  const uint32_t *prices, size_t prices_length, uint32_t stock) __asm__("sumpheron_totals");
 #ifdef __cplusplus
 }
 #endif
@@ -251,6 +276,7 @@ static void read_1(void) { WRITE(answer, read, BOOK, 1); }
 static void trade_outside(void) { WRITE(answer, trade, BOOK, 1, 3090003, 969600001); }
 static void settle_nothing(void) { WRITE(notice, settle, BOOK, 1, 3080200); }
 static void settle_pause(void) { WRITE(notice, settle, BOOK, 1, 3110000); }
+static void totals_1(void) { WRITE(summary, totals, BOOK, 1); }
 
 /* A struct of at most 16 bytes is returned in registers. */
 static void next_1(void)
@@ -293,6 +319,7 @@ static void check_sizes(void)
     check_call(read_1, ANSWER, LENGTH(ANSWER), RUBBISH, sizeof(struct sumpheron_answer));
     check_call(settle_nothing, NOTICE, LENGTH(NOTICE), RUBBISH, sizeof(struct sumpheron_notice));
     check_call(next_1, UPCOMING, LENGTH(UPCOMING), RUBBISH, sizeof(struct sumpheron_upcoming));
+    check_call(totals_1, SUMMARY, LENGTH(SUMMARY), SUMMARIES[1], sizeof(struct sumpheron_summary));
 }
 
 static void set_up(void)
@@ -302,20 +329,59 @@ static void set_up(void)
     check_all_guards("after setup");
 }
 
-static void quote(uint32_t time, uint32_t participant)
+/* Does the moments of stock 1 that are due by a time: those with these marks, in this order. */
+static void settle(uint32_t time, const char *marks)
 {
-    expect_done("quote", sumpheron_quote(BOOK, 1, time, participant, 969599985 + participant, 969600001 + participant));
+    struct sumpheron_notice notice;
+    for (; *marks; marks++) {
+        notice = sumpheron_settle(BOOK, 1, time);
+        expect_done("settling", notice.answer);
+        if (notice.mark != (unsigned char)*marks)
+            FAULT("settling to %" PRIu32 " does %" PRIu32 " and not %c", time, notice.mark, *marks);
+    }
+    notice = sumpheron_settle(BOOK, 1, time);
+    if (notice.answer.number != SUMPHERON_NOTHING_DUE)
+        FAULT("settling to %" PRIu32 " is not done", time);
 }
 
-/* Stock 1 opens and trades, all participants quote it, and it goes through a limit state into a late pause. */
-static void play(void)
+static void bid_and_offer(uint32_t time, uint32_t participant, uint32_t bid, uint32_t offer)
+{
+    expect_done("quote", sumpheron_quote(BOOK, 1, time, participant, bid, offer));
+}
+
+static void quote(uint32_t time, uint32_t participant)
+{
+    bid_and_offer(time, participant, 969599985 + participant, 969600001 + participant);
+}
+
+static void check_record(size_t stock, const uint64_t *values)
+{
+    const unsigned char *bytes = (const unsigned char *)(memory.records + AHEAD);
+    const size_t size = sizeof(struct sumpheron_record);
+    check_fields(RECORD, LENGTH(RECORD), values, bytes + stock * size, size);
+}
+
+/* Stock 1 opens, enters a limit state, leaves it, enters another, pauses, and is reopened. */
+static void play_pause(void)
 {
     expect_done("opening", sumpheron_opening(BOOK, 1, 1001, 9, 600000000));
-    for (int moment = 0; moment < DUE; moment++)
-        expect_done("settling", sumpheron_settle(BOOK, 1, 3050000).answer);
+    check_record(1, RECORDS[1]);
+    bid_and_offer(2002, 0, 960000000, 0);
+    bid_and_offer(2005, 0, 0, 0);
+    bid_and_offer(2010, 0, 960000000, 0);
+    settle(17010, "x");
+    bid_and_offer(17011, 0, 0, 0);
+    settle(317020, "hv");
+    expect_done("reopening", sumpheron_reopening(BOOK, 1, 317020, 9, 600000000));
+}
+
+/* Stock 1 trades, all participants quote it, and it goes through a limit state into a late pause. */
+static void play(void)
+{
+    settle(3050000, "hvww");
     for (uint32_t i = 0; i < HELD; i++)
         expect_done("trade", sumpheron_trade(BOOK, 1, 3050001 + i, PRICES[i]));
-    expect_done("the end of the hold", sumpheron_settle(BOOK, 1, 3080099).answer);
+    settle(3080099, "h");
     for (uint32_t i = 0; i < SUMPHERON_PARTICIPANTS - 1; i++)
         quote(3080100 + i, i);
     check_call(read_1, ANSWER, LENGTH(ANSWER), ANSWERS[0], sizeof(struct sumpheron_answer));
@@ -325,34 +391,35 @@ static void play(void)
     check_call(trade_outside, ANSWER, LENGTH(ANSWER), ANSWERS[1], sizeof(struct sumpheron_answer));
     check_call(settle_pause, NOTICE, LENGTH(NOTICE), NOTICES[1], sizeof(struct sumpheron_notice));
     quote(3150003, 3);
+    check_call(totals_1, SUMMARY, LENGTH(SUMMARY), SUMMARIES[0], sizeof(struct sumpheron_summary));
 }
 
-static void check_records(void)
+static void check_end(void)
 {
-    const unsigned char *bytes = (const unsigned char *)(memory.records + AHEAD);
-    const size_t size = sizeof(struct sumpheron_record);
-    for (size_t stock = 0; stock < STOCKS; stock++)
-        check_fields(RECORD, LENGTH(RECORD), RECORDS[stock], bytes + stock * size, size);
+    check_record(0, RECORDS[0]);
+    check_record(1, RECORDS[2]);
     check_all_guards("at the end");
     check_places();
 }
 
 int main(void)
 {
-    check_table(RECORD, LENGTH(RECORD), RECORDS[1], 1, sizeof(struct sumpheron_record));
+    check_table(RECORD, LENGTH(RECORD), RECORDS[0], LENGTH(RECORDS), sizeof(struct sumpheron_record));
     check_table(ANSWER, LENGTH(ANSWER), ANSWERS[0], LENGTH(ANSWERS), sizeof(struct sumpheron_answer));
     check_table(NOTICE, LENGTH(NOTICE), NOTICES[0], LENGTH(NOTICES), sizeof(struct sumpheron_notice));
     check_table(UPCOMING, LENGTH(UPCOMING), NEXT, 1, sizeof(struct sumpheron_upcoming));
+    check_table(SUMMARY, LENGTH(SUMMARY), SUMMARIES[0], LENGTH(SUMMARIES), sizeof(struct sumpheron_summary));
     if ((uintptr_t)(memory.records + AHEAD) % 16 != 8 || (uintptr_t)(memory.times + GUARD) % 8 != 4)
         FAULT("the arrays have more alignment than they need, or less");
     memset(&memory, PATTERN & 0xff, sizeof memory);
     check_sizes();
     if (faults == 0) {
         set_up();
+        play_pause();
         play();
-        check_records();
+        check_end();
     }
-    printf("layout: %zu fields of a record, %zu of an answer, %zu of a notice, %zu of an upcoming, %d faults\n",
-           LENGTH(RECORD), LENGTH(ANSWER), LENGTH(NOTICE), LENGTH(UPCOMING), faults);
+    printf("layout: %zu fields of a record, %zu of an answer, %zu of a notice, %zu of an upcoming, %zu of a summary, %d faults\n",
+           LENGTH(RECORD), LENGTH(ANSWER), LENGTH(NOTICE), LENGTH(UPCOMING), LENGTH(SUMMARY), faults);
     return faults == 0 ? 0 : 1;
 }

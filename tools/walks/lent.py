@@ -3,7 +3,7 @@
 
     tell_one, settle_one    `&mut Record`      one.tpl
     tell, settle            `&mut [Record]`    book.tpl
-    read, next              `&[Record]`        read.tpl
+    read, next, totals      `&[Record]`        read.tpl
 
 A template has the text of a proof except for the steps through the MIR; head.tpl has the `use` lines of all proofs, and a proof keeps
 those that it needs. This script computes the steps, over a context by name (ctx.py): a local's name is its number in the MIR. Where a body in crates/book/src/lib.rt changes, `rt mir book` shows the MIR that the steps must follow.
@@ -323,6 +323,7 @@ FUNCTIONS = [
     (book, {**SETTLE, "fn": "settle", "step": "settled_at", "promise": "SettledAt i t one (x₁ .now) (x₂ .now)"}),
     (read, {"fn": "read", "step": "read_at", "Answer": "Answer", "refuse": "zeros", "zeros": "zeros", "given": "reading", "promise": "readingIn"}),
     (read, {"fn": "next", "step": "next_at", "Answer": "Upcoming", "refuse": "none_coming", "zeros": "noneComing", "given": "coming", "promise": "comingIn"}),
+    (read, {"fn": "totals", "step": "totals_at", "Answer": "Summary", "refuse": "no_summary", "zeros": "noSummary", "given": "totalling", "promise": "totallingIn"}),
 ]
 
 

@@ -24,6 +24,7 @@ PLAIN = [
     {"callee": "settle", "Answer": "Notice", "params": [*BOOK, "u32"], "promise": "SettlesIn x₃ x₄"},
     {"callee": "read", "Answer": "Answer", "params": ["records", "shared", "shared", "u32"], "promise": "r ≡ readingIn x₃"},
     {"callee": "next", "Answer": "Upcoming", "params": ["records", "shared", "shared", "u32"], "promise": "r ≡ comingIn x₃"},
+    {"callee": "totals", "Answer": "Summary", "params": ["records", "shared", "shared", "u32"], "promise": "r ≡ totallingIn x₃"},
 ]
 # how many numbers each letter's message has
 LETTERS = {"trade": 2, "quote": 4, "opening": 3, "pause": 2, "reopening": 3, "closing": 3}

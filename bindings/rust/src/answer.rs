@@ -1,6 +1,6 @@
 //! What calls on a book return.
 
-use crate::{raw, Flag, Mark, Number, State, HIGHEST_PRICE, VERSION};
+use crate::{raw, Flag, Mark, Number, State, StateTimes, HIGHEST_PRICE, VERSION};
 use std::{error, fmt};
 
 /// A stock's values.
@@ -59,6 +59,22 @@ pub struct Moment {
     pub mark: Mark,
     /// When it is due.
     pub time: u32,
+}
+
+/// A stock's day totals, as of its last accepted message or settled moment.
+#[non_exhaustive]
+#[derive(Clone, Copy, Debug, PartialEq, Eq)]
+pub struct Totals {
+    /// How long the stock was in each state. The time since the last accepted call is in none of them.
+    pub spent: StateTimes,
+    /// How many limit states began; the count stops at `u32::MAX`.
+    pub limit_states: u32,
+    /// How many pauses began, late ones too; the count stops at `u32::MAX`.
+    pub pauses: u32,
+    /// The highest price of an accepted trade, if there was one; openings and reopenings do not count.
+    pub highest: Option<u32>,
+    /// The lowest price of an accepted trade, if there was one; openings and reopenings do not count.
+    pub lowest: Option<u32>,
 }
 
 /// A call that was refused, and changed nothing.
@@ -171,6 +187,24 @@ impl TryFrom<raw::Notice> for Notice {
             time: raw.time,
             answer,
         })
+    }
+}
+
+impl TryFrom<raw::Summary> for Totals {
+    type Error = Refusal;
+
+    fn try_from(raw: raw::Summary) -> Result<Totals, Refusal> {
+        let price = |price| (price != 0).then_some(price);
+        match raw.number.into() {
+            Number::Done => Ok(Totals {
+                spent: raw.totals.spent,
+                limit_states: raw.totals.limit_states,
+                pauses: raw.totals.pauses,
+                highest: price(raw.totals.highest),
+                lowest: price(raw.totals.lowest),
+            }),
+            number => Err(Refusal::of(number)),
+        }
     }
 }
 

@@ -1,6 +1,6 @@
 //! The book of stocks, and the calls on it.
 
-use crate::{raw, Answer, Error, Moment, Notice, Number, Refusal};
+use crate::{raw, Answer, Error, Moment, Notice, Number, Refusal, Totals};
 use crate::{MOST_STOCKS, PLACES, SETUP_NUMBERS, VERSION};
 use std::{fmt, ops::Range};
 
@@ -178,6 +178,11 @@ impl Book {
     /// [`NothingDue`](Number::NothingDue).
     pub fn next(&self, stock: u32) -> Result<Option<Moment>, Refusal> {
         Moment::coming(lend!(self, as_ptr, sumpheron_next, stock))
+    }
+
+    /// A stock's day totals: how long it was in each state, its limit states and pauses, and its highest and lowest trade.
+    pub fn totals(&self, stock: u32) -> Result<Totals, Refusal> {
+        lend!(self, as_ptr, sumpheron_totals, stock).try_into()
     }
 
     /// Does a stock's earliest moment if it is due by `time`, and is otherwise refused as [`NothingDue`](Number::NothingDue).

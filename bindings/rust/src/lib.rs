@@ -53,12 +53,13 @@ mod book;
 mod numbers;
 pub mod raw;
 
-pub use answer::{Answer, Bands, Error, Moment, Notice, Quote, Refusal};
+pub use answer::{Answer, Bands, Error, Moment, Notice, Quote, Refusal, Totals};
 pub use book::{Book, Setup};
 pub use numbers::{Flag, Mark, Number, State};
+pub use raw::StateTimes;
 
 /// The library version that these bindings are for: SUMPHERON_VERSION of the header.
-pub const VERSION: u32 = 4;
+pub const VERSION: u32 = 5;
 /// A book has at most this many stocks.
 pub const MOST_STOCKS: usize = 64;
 /// Each stock owns this many places of the trade times and of the trade prices: those of stock i begin at `PLACES * i`.

@@ -2,13 +2,13 @@
 //!
 //! [`Book`](crate::Book) calls them safely. Each array is passed as a pointer and a length. No pointer may be null, each must be aligned
 //! and have as many elements as its length says, and no two arrays of one call may overlap. Calls on one book must not run concurrently;
-//! only [`sumpheron_read`] and [`sumpheron_next`] may run concurrently with each other.
+//! only [`sumpheron_read`], [`sumpheron_next`] and [`sumpheron_totals`] may run concurrently with each other.
 
 #![allow(clippy::too_many_arguments)]
 
 use crate::PARTICIPANTS;
 
-/// A stock's record: docs/RECORD.md says what each field holds. It has 200 bytes, no padding, and is aligned to 8.
+/// A stock's record: docs/RECORD.md says what each field holds. It has 240 bytes, no padding, and is aligned to 8.
 #[non_exhaustive]
 #[repr(C)]
 #[derive(Clone, Copy, Debug, Default, PartialEq, Eq)]
@@ -48,6 +48,44 @@ pub struct Record {
     pub offers: [u32; PARTICIPANTS],
     /// How many trades are held.
     pub trades: u64,
+    /// The day totals.
+    pub totals: DayTotals,
+}
+
+/// How long a stock was in each state, in milliseconds. The six times add up to the stock's clock.
+#[non_exhaustive]
+#[repr(C)]
+#[derive(Clone, Copy, Debug, Default, PartialEq, Eq)]
+pub struct StateTimes {
+    /// In Waiting.
+    pub waiting: u32,
+    /// In Trading.
+    pub trading: u32,
+    /// In Limit.
+    pub limit: u32,
+    /// In Paused.
+    pub paused: u32,
+    /// In Late pause.
+    pub late_pause: u32,
+    /// In Closed.
+    pub closed: u32,
+}
+
+/// What a stock's day has come to, up to its last accepted call.
+#[non_exhaustive]
+#[repr(C)]
+#[derive(Clone, Copy, Debug, Default, PartialEq, Eq)]
+pub struct DayTotals {
+    /// How long the stock was in each state.
+    pub spent: StateTimes,
+    /// How many limit states began; the count stops at the highest number of 32 bits.
+    pub limit_states: u32,
+    /// How many pauses began, late ones too; the count stops at the highest number of 32 bits.
+    pub pauses: u32,
+    /// The highest price of an accepted trade (T), 0 for none.
+    pub highest: u32,
+    /// The lowest price of an accepted trade (T), 0 for none.
+    pub lowest: u32,
 }
 
 /// What a call returns.
@@ -119,6 +157,17 @@ pub struct Upcoming {
     pub time: u32,
 }
 
+/// A stock's day totals.
+#[non_exhaustive]
+#[repr(C)]
+#[derive(Clone, Copy, Debug, Default, PartialEq, Eq)]
+pub struct Summary {
+    /// The number of [`Number`](crate::Number).
+    pub number: u32,
+    /// The totals, all 0 if the number is not 0.
+    pub totals: DayTotals,
+}
+
 extern "C" {
     /// The version of the library. The declarations here are right only if it is [`VERSION`](crate::VERSION).
     pub fn sumpheron_version() -> u32;
@@ -170,6 +219,17 @@ extern "C" {
         prices_length: usize,
         stock: u32,
     ) -> Upcoming;
+
+    /// Returns the stock's day totals, and changes nothing.
+    pub fn sumpheron_totals(
+        book: *const Record,
+        stocks: usize,
+        times: *const u32,
+        times_length: usize,
+        prices: *const u32,
+        prices_length: usize,
+        stock: u32,
+    ) -> Summary;
 
     /// T: an eligible trade.
     pub fn sumpheron_trade(

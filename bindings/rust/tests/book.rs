@@ -2,7 +2,7 @@
 
 use std::fmt::Debug;
 use sumpheron::{raw, Answer, Book, Error, Flag, Mark, Notice, Number, Refusal, Setup, State};
-use sumpheron::{MOST_STOCKS, PARTICIPANTS, PLACES};
+use sumpheron::{StateTimes, MOST_STOCKS, PARTICIPANTS, PLACES};
 
 const END: u32 = 23_400_000;
 const SETUP: Setup = Setup::new(2, 1, 2, 115_000);
@@ -322,6 +322,140 @@ fn what_comes_next_is_what_settling_does() {
     assert_eq!(number(book.next(2)), Number::NoStock);
     let nothing = Book::from_parts(Vec::new(), Vec::new(), Vec::new()).unwrap();
     assert_eq!(number(nothing.next(0)), Number::Rubbish);
+}
+
+/// The six times, in the order of the states' numbers.
+fn six(spent: StateTimes) -> [u32; 6] {
+    [
+        spent.waiting,
+        spent.trading,
+        spent.limit,
+        spent.paused,
+        spent.late_pause,
+        spent.closed,
+    ]
+}
+
+/// Checks the totals of stock 0: the six times, the limit states and pauses, and the highest and lowest trade.
+#[track_caller]
+fn check_totals(book: &Book, spent: [u32; 6], counts: [u32; 2], prices: [Option<u32>; 2]) {
+    let totals = book.totals(0).unwrap();
+    assert_eq!(six(totals.spent), spent);
+    assert_eq!([totals.limit_states, totals.pauses], counts);
+    assert_eq!([totals.highest, totals.lowest], prices);
+    assert_eq!(spent.iter().sum::<u32>(), book.records()[0].clock);
+}
+
+/// Document 01's day: the stock waits to 1,000, trades to 4,000, is at a limit to 19,000, and pauses to 319,000.
+#[test]
+fn the_outlines_day_has_these_totals() {
+    let mut book = book();
+    check_totals(&book, [0; 6], [0, 0], [None, None]);
+    book.opening(0, 1_000, 2, 115_000).unwrap();
+    book.quote(0, 2_000, 5, 114_900, 115_100).unwrap();
+    book.quote(0, 3_000, 7, 0, 92_000).unwrap();
+    check_totals(&book, [1_000, 2_000, 0, 0, 0, 0], [0, 0], [None, None]);
+    book.quote(0, 4_000, 5, 0, 115_100).unwrap();
+    check_totals(&book, [1_000, 3_000, 0, 0, 0, 0], [1, 0], [None, None]);
+    let traded = [Some(92_000); 2];
+    book.trade(0, 5_000, 92_000).unwrap();
+    check_totals(&book, [1_000, 3_000, 1_000, 0, 0, 0], [1, 0], traded);
+    let notice = book.settle(0, 319_000).unwrap();
+    assert_eq!((notice.mark, notice.time), (Mark::X, 19_000));
+    check_totals(&book, [1_000, 3_000, 15_000, 0, 0, 0], [1, 1], traded);
+    book.settle_all(0, 319_000, |_| ()).unwrap();
+    let paused = [1_000, 3_000, 15_000, 286_000, 0, 0];
+    check_totals(&book, paused, [1, 1], traded);
+    book.reopening(0, 319_000, 2, 95_000).unwrap();
+    let reopened = [1_000, 3_000, 15_000, 300_000, 0, 0];
+    check_totals(&book, reopened, [1, 1], traded);
+    assert!(book.trade(0, 319_500, 120_000).is_err());
+    check_totals(&book, reopened, [1, 1], traded);
+    assert_eq!(book.totals(1), Book::new(END, &[SETUP]).unwrap().totals(0));
+}
+
+/// A quote that ends a limit state and begins the next counts one more, and a late pause counts as a pause.
+#[test]
+fn totals_count_every_limit_state_and_pause() {
+    let mut book = trading();
+    book.trade(0, 2_000, 130_000).unwrap();
+    book.trade(0, 2_500, 122_500).unwrap();
+    let prices = [Some(130_000), Some(122_500)];
+    book.quote(0, 3_000, 5, 138_000, 0).unwrap();
+    check_totals(&book, [1_000, 2_000, 0, 0, 0, 0], [1, 0], prices);
+    // The mean of the opening and the trades becomes the reference, and the offer is at the new lower band.
+    let again = book.quote(0, 4_000, 5, 0, 98_000).unwrap();
+    assert_eq!(
+        (again.state, again.reference),
+        (State::Limit, Some(122_500))
+    );
+    check_totals(&book, [1_000, 2_000, 1_000, 0, 0, 0], [2, 0], prices);
+    book.quote(0, 5_000, 5, 0, 147_001).unwrap();
+    book.pause(0, 6_000, 2).unwrap();
+    check_totals(&book, [1_000, 3_000, 2_000, 0, 0, 0], [2, 1], prices);
+    book.settle_all(0, END - 600_000, |_| ()).unwrap();
+    book.pause(0, END - 600_000, 2).unwrap();
+    let spent = [1_000, 22_197_000, 2_000, 600_000, 0, 0];
+    check_totals(&book, spent, [2, 2], prices);
+    book.settle_all(0, END + 300_000, |_| ()).unwrap();
+    assert_eq!(book.read(0).unwrap().state, State::Closed);
+    let closed = [1_000, 22_197_000, 2_000, 600_000, 900_000, 0];
+    check_totals(&book, closed, [2, 2], prices);
+}
+
+/// Prices that are no trades do not count, and counts stop at the highest number.
+#[test]
+fn totals_are_kept_in_the_record() {
+    let (mut records, times, prices) = trading().into_parts();
+    records[0].totals.limit_states = u32::MAX;
+    records[0].totals.pauses = u32::MAX;
+    // A lowest above the highest is no rubbish.
+    records[0].totals.lowest = 999_999_999;
+    let mut book = Book::from_parts(records, times, prices).unwrap();
+    let most = [u32::MAX; 2];
+    let stands = [None, Some(999_999_999)];
+    check_totals(&book, [1_000, 1_000, 0, 0, 0, 0], most, stands);
+    book.pause(0, 3_000, 2).unwrap();
+    check_totals(&book, [1_000, 2_000, 0, 0, 0, 0], most, stands);
+    book.settle_all(0, 303_000, |_| ()).unwrap();
+    book.reopening(0, 303_000, 2, 115_000).unwrap();
+    check_totals(&book, [1_000, 2_000, 0, 300_000, 0, 0], most, stands);
+    book.trade(0, 303_000, 116_000).unwrap();
+    book.quote(0, 303_000, 5, 138_000, 0).unwrap();
+    let traded = [Some(116_000); 2];
+    check_totals(&book, [1_000, 2_000, 0, 300_000, 0, 0], most, traded);
+}
+
+#[test]
+fn totals_that_are_refused_say_why() {
+    let (records, times, prices) = trading().into_parts();
+    let with = |change: fn(&mut raw::DayTotals)| {
+        let mut records = records.clone();
+        change(&mut records[0].totals);
+        Book::from_parts(records, times.clone(), prices.clone()).unwrap()
+    };
+    let rubbish: [fn(&mut raw::DayTotals); 5] = [
+        |totals| totals.spent.closed = 1,
+        |totals| totals.spent.waiting = 0,
+        // The six times are the clock only if the sum wraps.
+        |totals| (totals.spent.limit, totals.spent.paused) = (u32::MAX, 1),
+        |totals| totals.highest = 1_000_000_000,
+        |totals| totals.lowest = 1_000_000_000,
+    ];
+    for change in rubbish {
+        let mut book = with(change);
+        let before = book.clone();
+        assert_eq!(number(book.totals(0)), Number::Rubbish);
+        assert_eq!(number(book.read(0)), Number::Rubbish);
+        assert_eq!(number(book.trade(0, 3_000, 115_000)), Number::Rubbish);
+        assert!(book.totals(1).is_ok());
+        assert_eq!(book, before);
+    }
+    let moved = with(|totals| (totals.spent.waiting, totals.spent.closed) = (0, 1_000));
+    check_totals(&moved, [0, 1_000, 0, 0, 0, 1_000], [0, 0], [None, None]);
+    assert_eq!(number(with(|_| ()).totals(2)), Number::NoStock);
+    let short = Book::from_parts(records, times[1..].to_vec(), prices).unwrap();
+    assert_eq!(number(short.totals(2)), Number::Rubbish);
 }
 
 #[test]

@@ -40,7 +40,10 @@ fn numbers(field: Field) -> Vec<Field> {
 fn record() -> Vec<Field> {
     let fields = fields!(Record:
         tier, leverage, primary, close, session_end, state, clock, f_to_come, limit_entry, pause_start,
-        reference_sum, reference_count, reference_start, h_to_come, bids, offers, trades);
+        reference_sum, reference_count, reference_start, h_to_come, bids, offers, trades,
+        totals.spent.waiting, totals.spent.trading, totals.spent.limit, totals.spent.paused,
+        totals.spent.late_pause, totals.spent.closed,
+        totals.limit_states, totals.pauses, totals.highest, totals.lowest);
     fields.into_iter().flat_map(numbers).collect()
 }
 
@@ -58,6 +61,13 @@ fn upcoming() -> Vec<Field> {
     fields!(Upcoming: number, mark, time)
 }
 
+fn summary() -> Vec<Field> {
+    fields!(Summary:
+        number, totals.spent.waiting, totals.spent.trading, totals.spent.limit, totals.spent.paused,
+        totals.spent.late_pause, totals.spent.closed,
+        totals.limit_states, totals.pauses, totals.highest, totals.lowest)
+}
+
 const fn size_of_field<S, F>(_: fn(&S) -> &F) -> usize {
     size_of::<F>()
 }
@@ -71,16 +81,20 @@ macro_rules! no_padding {
 
 no_padding!(Record:
     tier, leverage, primary, close, session_end, state, clock, f_to_come, limit_entry, pause_start,
-    reference_sum, reference_count, reference_start, h_to_come, bids, offers, trades);
+    reference_sum, reference_count, reference_start, h_to_come, bids, offers, trades, totals);
+no_padding!(StateTimes: waiting, trading, limit, paused, late_pause, closed);
+no_padding!(DayTotals: spent, limit_states, pauses, highest, lowest);
 no_padding!(Answer: number, state, reference, lower, upper, bid, bid_flag, offer, offer_flag);
 no_padding!(Notice: answer, mark, time);
 no_padding!(Upcoming: number, mark, time);
+no_padding!(Summary: number, totals);
 
 /// The sizes and the alignments that docs/RECORD.md says.
-const _: () = assert!(RECORD == 200 && align_of::<raw::Record>() == 8);
+const _: () = assert!(RECORD == 240 && align_of::<raw::Record>() == 8);
 const _: () = assert!(size_of::<raw::Answer>() == 36 && align_of::<raw::Answer>() == 4);
 const _: () = assert!(size_of::<raw::Notice>() == 44 && align_of::<raw::Notice>() == 4);
 const _: () = assert!(size_of::<raw::Upcoming>() == 12 && align_of::<raw::Upcoming>() == 4);
+const _: () = assert!(size_of::<raw::Summary>() == 44 && align_of::<raw::Summary>() == 4);
 
 // ---------------------------------------------------------------- the values that the day must give
 
@@ -102,16 +116,48 @@ const PRICES: [u32; 10] = [
 /// The upper band of that mean, 606,000,003.875, which answers have rounded.
 const UPPER: u32 = 969_600_000;
 
-/// Stock 0 as it was set up, and stock 1 at the end.
-fn records() -> [Vec<u64>; 2] {
-    let mut first = vec![1, 1, 6, 31_000, 3_700_000, 0, 0, 1];
-    first.resize(record().len(), 0);
-    let mut second = vec![2, 3, 9, 115_000, 3_700_000, 4, 3_150_003, 1];
-    second.extend([3_090_002, 3_105_002, 4_848_000_031, 8, 3_050_008, 0]);
-    second.extend(969_599_985..=969_600_016);
-    second.push(PRICES.len() as u64);
-    [first, second]
+/// Stock 0 as it was set up.
+fn set_up_record() -> Vec<u64> {
+    let mut record = vec![1, 1, 6, 31_000, 3_700_000, 0, 0, 1];
+    record.resize(NUMBERS, 0);
+    record
 }
+
+/// Stock 1 after its opening.
+fn opened_record() -> Vec<u64> {
+    let mut record = vec![2, 3, 9, 115_000, 3_700_000, 1, 1_001, 1];
+    record.extend([0, 0, 600_000_000, 1, 1_001, 1]);
+    record.extend([0; 2 * PARTICIPANTS]);
+    record.extend([1, 1_001]);
+    record.resize(NUMBERS, 0);
+    record
+}
+
+/// Stock 1 at the end.
+fn last_record() -> Vec<u64> {
+    let mut record = vec![2, 3, 9, 115_000, 3_700_000, 4, 3_150_003, 1];
+    record.extend([3_090_002, 3_105_002, 4_848_000_031, 8, 3_050_008, 0]);
+    record.extend(969_599_985..=969_600_016);
+    record.push(PRICES.len() as u64);
+    record.extend(&SUMMARY[1..]);
+    record
+}
+
+/// The number 0, and the totals of stock 1 at the end: it waited to 1,001, traded to 2,002, was at a limit to 2,005, traded to 2,010, was
+/// at a limit to 17,010, paused to 317,020, traded to 3,090,002, was at a limit to 3,105,002, and was then in a late pause to 3,150,003.
+const SUMMARY: [u64; 11] = [
+    0,
+    1_001,
+    2_773_988,
+    30_003,
+    300_010,
+    45_001,
+    0,
+    3,
+    2,
+    648_000_003,
+    600_000_001,
+];
 
 /// Reading in Trading, and a trade outside the bands in Limit.
 const ANSWERS: [[u64; 9]; 2] = [
@@ -183,8 +229,8 @@ const GUARD: usize = 33;
 const PATTERN: u32 = 0xa5a5_a5a5;
 const STOCKS: usize = 2;
 const RECORD: usize = size_of::<raw::Record>();
-/// The moments between the opening and the first trade: h, v, w, w.
-const DUE: usize = 4;
+/// The numbers of a record: three of them have 8 bytes, and all others 4.
+const NUMBERS: usize = RECORD / 4 - 3;
 
 /// An array of numbers at an address that 16 divides.
 #[derive(Clone)]
@@ -246,6 +292,17 @@ mod written {
 
     extern "C" {
         pub fn sumpheron_read(
+            room: *mut Room,
+            book: *const u32,
+            stocks: usize,
+            times: *const u32,
+            times_length: usize,
+            prices: *const u32,
+            prices_length: usize,
+            stock: u32,
+        );
+
+        pub fn sumpheron_totals(
             room: *mut Room,
             book: *const u32,
             stocks: usize,
@@ -330,11 +387,19 @@ fn check_fields(fields: &[Field], values: &[u64], written: &[u8]) -> Vec<String>
     faults
 }
 
+fn size_in_all(fields: &[Field]) -> usize {
+    fields.iter().map(|field| field.size).sum()
+}
+
 /// Checks that the fields have 4 or 8 bytes and cover every byte of the struct, and that any two fields differ in some row of values.
 fn check_table(fields: &[Field], rows: &[&[u64]], size: usize) {
-    let sum: usize = fields.iter().map(|field| field.size).sum();
     assert!(fields.iter().all(|field| matches!(field.size, 4 | 8)));
-    assert_eq!(sum, size, "bytes of the fields from {} on", fields[0].name);
+    assert_eq!(
+        size_in_all(fields),
+        size,
+        "bytes of the fields from {} on",
+        fields[0].name
+    );
     for (i, field) in fields.iter().enumerate() {
         for (j, other) in fields[..i].iter().enumerate() {
             let apart = rows.iter().any(|row| row[i] != row[j]);
@@ -348,10 +413,9 @@ fn check_call(
     memory: &mut Memory,
     fields: &[Field],
     values: &[u64],
-    size: usize,
     call: fn(&mut Memory, &mut Room),
 ) {
-    let before = memory.clone();
+    let (before, size) = (memory.clone(), size_in_all(fields));
     let mut end = 0;
     for fill in [0xa5, 0x5a] {
         let mut room = [u32::from_ne_bytes([fill; 4]); 64];
@@ -406,6 +470,10 @@ fn settle_nothing(memory: &mut Memory, room: &mut Room) {
     answer_into!(sumpheron_settle, room, memory, 1, 3_080_200)
 }
 
+fn totals(memory: &mut Memory, room: &mut Room) {
+    answer_into!(sumpheron_totals, room, memory, 1)
+}
+
 /// The answer is returned in registers, and copied into the room here.
 fn next(memory: &mut Memory, room: &mut Room) {
     let answer = lend!(raw::sumpheron_next, [], memory, 1);
@@ -430,7 +498,18 @@ fn set_up(memory: &mut Memory) {
     check_guards(memory);
 }
 
-fn quote(memory: &mut Memory, time: u32, who: u32) {
+/// Does the moments of stock 1 that are due by a time: those with these marks, in this order.
+fn settle(memory: &mut Memory, time: u32, marks: &str) {
+    for mark in marks.chars() {
+        let notice = lend!(raw::sumpheron_settle, [], memory, 1, time);
+        expect_done(notice.answer);
+        assert_eq!(char::from_u32(notice.mark), Some(mark));
+    }
+    let last = lend!(raw::sumpheron_settle, [], memory, 1, time);
+    assert_eq!(Number::from(last.answer.number), Number::NothingDue);
+}
+
+fn bid_and_offer(memory: &mut Memory, time: u32, who: u32, bid: u32, offer: u32) {
     expect_done(lend!(
         raw::sumpheron_quote,
         [],
@@ -438,41 +517,57 @@ fn quote(memory: &mut Memory, time: u32, who: u32) {
         1,
         time,
         who,
-        UPPER - 15 + who,
-        UPPER + 1 + who
+        bid,
+        offer
     ));
 }
 
-/// Stock 1 opens and trades, and all participants but the last quote it.
-fn play_trading(memory: &mut Memory) {
+fn quote(memory: &mut Memory, time: u32, who: u32) {
+    bid_and_offer(memory, time, who, UPPER - 15 + who, UPPER + 1 + who);
+}
+
+fn open(memory: &mut Memory) {
+    let (time, price) = (1_001, 600_000_000);
+    expect_done(lend!(raw::sumpheron_opening, [], memory, 1, time, 9, price));
+}
+
+/// Stock 1 enters a limit state, leaves it, enters another, pauses, and is reopened.
+fn play_pause(memory: &mut Memory) {
+    for (time, bid) in [(2_002, 960_000_000), (2_005, 0), (2_010, 960_000_000)] {
+        bid_and_offer(memory, time, 0, bid, 0);
+    }
+    settle(memory, 17_010, "x");
+    bid_and_offer(memory, 17_011, 0, 0, 0);
+    settle(memory, 317_020, "hv");
+    let (time, price) = (317_020, 600_000_000);
     expect_done(lend!(
-        raw::sumpheron_opening,
+        raw::sumpheron_reopening,
         [],
         memory,
         1,
-        1_001,
+        time,
         9,
-        600_000_000
+        price
     ));
-    for _ in 0..DUE {
-        expect_done(lend!(raw::sumpheron_settle, [], memory, 1, 3_050_000).answer);
-    }
+}
+
+/// Stock 1 trades, and all participants but the last quote it.
+fn play_trading(memory: &mut Memory) {
+    settle(memory, 3_050_000, "hvww");
     for (time, price) in (3_050_001..).zip(PRICES) {
         expect_done(lend!(raw::sumpheron_trade, [], memory, 1, time, price));
     }
     // The hold of the new reference ends.
-    expect_done(lend!(raw::sumpheron_settle, [], memory, 1, 3_080_099).answer);
+    settle(memory, 3_080_099, "h");
     for i in 0..PARTICIPANTS as u32 - 1 {
         quote(memory, 3_080_100 + i, i);
     }
 }
 
-fn check_records(memory: &Memory) {
+fn check_record(memory: &Memory, stock: usize, values: &[u64]) {
     let bytes = bytes_of(&memory.records.0[AHEAD..]);
-    for (stock, values) in records().iter().enumerate() {
-        let faults = check_fields(&record(), values, &bytes[stock * RECORD..][..RECORD]);
-        assert!(faults.is_empty(), "stock {stock}: {faults:#?}");
-    }
+    let faults = check_fields(&record(), values, &bytes[stock * RECORD..][..RECORD]);
+    assert!(faults.is_empty(), "stock {stock}: {faults:#?}");
 }
 
 /// Checks that stock 1 has its trades at the front of its places, and that all other places are 0.
@@ -485,45 +580,59 @@ fn check_places(memory: &Memory) {
     }
 }
 
+/// Checks the tables of fields and of values.
+fn check_tables() {
+    let records = [set_up_record(), opened_record(), last_record()];
+    check_table(
+        &record(),
+        &records.iter().map(Vec::as_slice).collect::<Vec<_>>(),
+        RECORD,
+    );
+    check_table(
+        &answer(),
+        &[&ANSWERS[0], &ANSWERS[1]],
+        size_of::<raw::Answer>(),
+    );
+    check_table(
+        &notice(),
+        &[&NOTICES[0], &NOTICES[1]],
+        size_of::<raw::Notice>(),
+    );
+    check_table(&upcoming(), &[&UPCOMING], size_of::<raw::Upcoming>());
+    check_table(&summary(), &[&SUMMARY, &RUBBISH], size_of::<raw::Summary>());
+}
+
+/// Checks the size of what each kind of call writes, on a book that is not set up.
+fn check_sizes(memory: &mut Memory) {
+    check_call(memory, &answer(), &RUBBISH, read);
+    check_call(memory, &notice(), &RUBBISH, settle_nothing);
+    check_call(memory, &upcoming(), &RUBBISH, next);
+    check_call(memory, &summary(), &RUBBISH, totals);
+}
+
 #[test]
 fn fields_are_where_the_library_writes_them() {
-    let (answer, notice, upcoming) = (answer(), notice(), upcoming());
-    let (answer_size, notice_size) = (size_of::<raw::Answer>(), size_of::<raw::Notice>());
-    let upcoming_size = size_of::<raw::Upcoming>();
-    check_table(&record(), &[&records()[1]], RECORD);
-    check_table(&answer, &[&ANSWERS[0], &ANSWERS[1]], answer_size);
-    check_table(&notice, &[&NOTICES[0], &NOTICES[1]], notice_size);
-    check_table(&upcoming, &[&UPCOMING], upcoming_size);
-
+    check_tables();
+    let memory = &mut Memory::new();
     // The sizes are compared first: a call that writes a larger struct than `raw` declares would overrun the stack.
-    let mut memory = Memory::new();
-    check_call(&mut memory, &answer, &RUBBISH, answer_size, read);
-    check_call(&mut memory, &notice, &RUBBISH, notice_size, settle_nothing);
-    check_call(&mut memory, &upcoming, &RUBBISH, upcoming_size, next);
+    check_sizes(memory);
 
-    set_up(&mut memory);
-    play_trading(&mut memory);
-    check_call(&mut memory, &answer, &ANSWERS[0], answer_size, read);
-    check_call(&mut memory, &upcoming, &UPCOMING, upcoming_size, next);
-    check_call(
-        &mut memory,
-        &notice,
-        &NOTICES[0],
-        notice_size,
-        settle_nothing,
-    );
-    quote(&mut memory, 3_090_002, PARTICIPANTS as u32 - 1);
-    check_call(
-        &mut memory,
-        &answer,
-        &ANSWERS[1],
-        answer_size,
-        trade_outside,
-    );
-    check_call(&mut memory, &notice, &NOTICES[1], notice_size, settle_pause);
-    quote(&mut memory, 3_150_003, 3);
+    set_up(memory);
+    open(memory);
+    check_record(memory, 1, &opened_record());
+    play_pause(memory);
+    play_trading(memory);
+    check_call(memory, &answer(), &ANSWERS[0], read);
+    check_call(memory, &upcoming(), &UPCOMING, next);
+    check_call(memory, &notice(), &NOTICES[0], settle_nothing);
+    quote(memory, 3_090_002, PARTICIPANTS as u32 - 1);
+    check_call(memory, &answer(), &ANSWERS[1], trade_outside);
+    check_call(memory, &notice(), &NOTICES[1], settle_pause);
+    quote(memory, 3_150_003, 3);
+    check_call(memory, &summary(), &SUMMARY, totals);
 
-    check_records(&memory);
-    check_guards(&memory);
-    check_places(&memory);
+    check_record(memory, 0, &set_up_record());
+    check_record(memory, 1, &last_record());
+    check_guards(memory);
+    check_places(memory);
 }

@@ -12,22 +12,23 @@ use lib.ListN.{length, length-map}
 use Rattle.forms.specs.Choice.{if_then_else_, allOf}
 use Rattle.forms.specs.Words.{Gives}
 use Rattle.forms.proofs.Decides.{past}
-use Rattle.rules.specs.Stock.{Whole}
+use Rattle.rules.specs.Counted.{Counted, fresh, settles, notice, settleAnswer}
 use Rattle.rules.specs.Machine.{messages, notices, On, of, Event, Call, tell, settle, Every, stock, numberIn, stepIn, happens, run, log}
-use Rattle.rules.specs.Book.{machine, blank, book, Settled, bookTells, bookSettles}
-use Rattle.rules.specs.Numbers.{fresh, settles, notice, settleAnswer}
+use Rattle.rules.specs.Book.{counting, blank, book, Settled, bookTells, bookSettles}
 use Rattle.rules.specs.Words.{IsShape}
 use Rattle.rules.specs.declared.Answer.{Answer}
 use Rattle.rules.specs.declared.Message.{Message}
 use Rattle.rules.specs.declared.Notice.{Notice}
 use Rattle.rules.specs.declared.Setup.{Setup}
+use Rattle.rules.proofs.Answers as answered
+use Rattle.rules.proofs.Counted.{noticed-by-settling}
 use Rattle.rules.proofs.Demands.{demands}
 use Rattle.calls.specs.Setup.{setupsOf}
 use Rattle.book.specs.Lent.{Lent}
 use Rattle.book.specs.Layout.{layout}
 use Rattle.book.specs.Words.{setupTable}
 use Rattle.book.specs.Setup.{numberOf}
-use Rattle.book.specs.Demands.{Family, Made, refused-setup, told, settled, was-read, next-given, Chain, calls, Answered, accepted, noticed, SettledTo, Demand2, Demand3, StoriesTold}
+use Rattle.book.specs.Demands.{Family, Made, refused-setup, told, settled, was-read, next-given, totals-given, Chain, calls, Answered, accepted, noticed, SettledTo, Demand2, Demand3, StoriesTold}
 use Rattle.book.proofs.Layouts.{length-records}
 use Rattle.book.proofs.SettingUp.{same-number}
 use Rattle.book.proofs.Chains.{Started, started, step-length, run-length, all-fit}
@@ -37,15 +38,15 @@ use Rattle.book.proofs.Chains.{Started, started, step-length, run-lengt
 abbrev Happened : Type 0
 Happened = List (On (Event Message Notice))
 
-module _ (end : ℕ) (hs : List Whole) (i j : ℕ) (later : Happened) where
+module _ (end : ℕ) (hs : List Counted) (i j : ℕ) (later : Happened) where
   -- an accepted message is in the story of its stock, and no other is
-  tell-happens : (m : Message) (a : Answer) → numberIn machine (blank end) hs (record { at = j; it = tell m }) ≡ a .number
-      → let es = of i (happens machine (blank end) hs (record { at = j; it = tell m }) ++ later) in
+  tell-happens : (m : Message) (a : Answer) → numberIn counting (blank end) hs (record { at = j; it = tell m }) ≡ a .number
+      → let es = of i (happens counting (blank end) hs (record { at = j; it = tell m }) ++ later) in
       (messages es ≡ (if allOf (eqb i j ∷ eqb (a .number) 0 ∷ []) then m ∷ messages (of i later) else messages (of i later))) × (notices es ≡ notices (of i later))
   unfolding happens of allOf if_then_else_
   tell-happens m a e = go (eqb (a .number) 0) refl (eqb i j) refl
     where
-      go : (x : Bool) → eqb (a .number) 0 ≡ x → (y : Bool) → eqb i j ≡ y → let es = of i (happens machine (blank end) hs (record { at = j; it = tell m }) ++ later) in
+      go : (x : Bool) → eqb (a .number) 0 ≡ x → (y : Bool) → eqb i j ≡ y → let es = of i (happens counting (blank end) hs (record { at = j; it = tell m }) ++ later) in
           (messages es ≡ (if allOf (eqb i j ∷ eqb (a .number) 0 ∷ []) then m ∷ messages (of i later) else messages (of i later))) × (notices es ≡ notices (of i later))
       go true q true r = rw (e, q, r) (refl, refl)
       go true q false r = rw (e, q, r) (refl, refl)
@@ -53,14 +54,14 @@ module _ (end : ℕ) (hs : List Whole) (i j : ℕ) (later : Happened) where
       go false q false r = rw (e, q, r) (refl, refl)
 
   -- a settled moment is, with its notice
-  settle-happens : (time : ℕ) (a : Notice) → numberIn machine (blank end) hs (record { at = j; it = settle time }) ≡ a .answer .number
-      → (a .answer .number ≡ 0 → a ≡ notice (stock machine (blank end) hs j))
-      → let es = of i (happens machine (blank end) hs (record { at = j; it = settle time }) ++ later) in
+  settle-happens : (time : ℕ) (a : Notice) → numberIn counting (blank end) hs (record { at = j; it = settle time }) ≡ a .answer .number
+      → (a .answer .number ≡ 0 → a ≡ notice (stock counting (blank end) hs j))
+      → let es = of i (happens counting (blank end) hs (record { at = j; it = settle time }) ++ later) in
       (messages es ≡ messages (of i later)) × (notices es ≡ (if allOf (eqb i j ∷ eqb (a .answer .number) 0 ∷ []) then a ∷ notices (of i later) else notices (of i later)))
   unfolding happens of allOf if_then_else_
   settle-happens time a e is = go (eqb (a .answer .number) 0) refl (eqb i j) refl
     where
-      go : (x : Bool) → eqb (a .answer .number) 0 ≡ x → (y : Bool) → eqb i j ≡ y → let es = of i (happens machine (blank end) hs (record { at = j; it = settle time }) ++ later) in
+      go : (x : Bool) → eqb (a .answer .number) 0 ≡ x → (y : Bool) → eqb i j ≡ y → let es = of i (happens counting (blank end) hs (record { at = j; it = settle time }) ++ later) in
           (messages es ≡ messages (of i later)) × (notices es ≡ (if allOf (eqb i j ∷ eqb (a .answer .number) 0 ∷ []) then a ∷ notices (of i later) else notices (of i later)))
       go true q true r = rw (e, q, r) (refl, ap (λ (n : Notice). n ∷ notices (of i later)) (sym (is (eqb-true _ _ q))))
       go true q false r = rw (e, q, r) (refl, refl)
@@ -69,7 +70,7 @@ module _ (end : ℕ) (hs : List Whole) (i j : ℕ) (later : Happened) where
 
 -- ------------------------------------------------------------------ a book of the right shape
 
-module _ (end : ℕ) (hs : List Whole) (some : 1 ≤ length hs) (few : length hs ≤ 64) where
+module _ (end : ℕ) (hs : List Counted) (some : 1 ≤ length hs) (few : length hs ≤ 64) where
   abbrev places : ℕ
   places = 512 * length hs
 
@@ -77,52 +78,53 @@ module _ (end : ℕ) (hs : List Whole) (some : 1 ≤ length hs) (few : length hs
   right-shape = (some, (few, (refl, refl)))
 
   -- the number by which a call changes the book is the one that it is answered
-  told-number : (j : ℕ) (m : Message) (a : Answer) → a ≡ bookTells end hs places places j m → numberIn machine (blank end) hs (record { at = j; it = tell m }) ≡ a .number
-  told-number j m a e = demands .book-numbers end hs places places j 0 .3 right-shape .0 m ∙ sym (ap (λ (x : Answer). x .number) e)
+  told-number : (j : ℕ) (m : Message) (a : Answer) → a ≡ bookTells end hs places places j m → numberIn counting (blank end) hs (record { at = j; it = tell m }) ≡ a .number
+  told-number j m a e = demands .book-numbers end hs places places j 0 .4 right-shape .0 m ∙ sym (ap (λ (x : Answer). x .number) e)
 
   settled-number : (j time : ℕ) (a : Notice) → a ≡ bookSettles end hs places places j time
-      → numberIn machine (blank end) hs (record { at = j; it = settle time }) ≡ a .answer .number
-  settled-number j time a e = demands .book-numbers end hs places places j 0 .3 right-shape .1 time ∙ sym (ap (λ (x : Notice). x .answer .number) e)
+      → numberIn counting (blank end) hs (record { at = j; it = settle time }) ≡ a .answer .number
+  settled-number j time a e = demands .book-numbers end hs places places j 0 .4 right-shape .1 time ∙ sym (ap (λ (x : Notice). x .answer .number) e)
 
   -- settling a stock that there is is answered as the stock answers it
   settled-own : (j time : ℕ) (a : Notice) → a ≡ bookSettles end hs places places j time → j < length hs
-      → (a ≡ settleAnswer time (stock machine (blank end) hs j)) × (a .answer .number ≡ settles time (stock machine (blank end) hs j))
+      → (a ≡ settleAnswer time (stock counting (blank end) hs j)) × (a .answer .number ≡ settles time (stock counting (blank end) hs j))
   settled-own j time a e l =
       let own = e ∙ demands .answers end hs places places j .1 time .0 (right-shape, l) in
-      (own, ap (λ (x : Notice). x .answer .number) own ∙ demands .shows (stock machine (blank end) hs j) .1 time .0 .0)
+      (own, ap (λ (x : Notice). x .answer .number) own ∙ answered.settled-number time (stock counting (blank end) hs j))
 
   -- where that was 0, with the notice
-  settled-notice : (j time : ℕ) (a : Notice) → a ≡ bookSettles end hs places places j time → a .answer .number ≡ 0 → a ≡ notice (stock machine (blank end) hs j)
+  settled-notice : (j time : ℕ) (a : Notice) → a ≡ bookSettles end hs places places j time → a .answer .number ≡ 0 → a ≡ notice (stock counting (blank end) hs j)
   settled-notice j time a e z =
       let given = demands .book-numbers end hs places places j 0 .1 time .0 (sym (ap (λ (x : Notice). x .answer .number) e) ∙ z) in
       let there = past 3 0 _ _ (λ q. omega (arith, q)) (past 1 0 _ _ (λ q. omega (arith, q)) given .1) .0 in
       let own = settled-own j time a e (omega (arith, there)) in
-      own .0 ∙ demands .calls-leave (stock machine (blank end) hs j) .1 time .0 (sym (own .1) ∙ z) .1
+      own .0 ∙ noticed-by-settling time (stock counting (blank end) hs j) (sym (own .1) ∙ z)
 
 -- ------------------------------------------------------------------ calls: the story of a stock is what its calls were answered
 
-abbrev AsAnswered : ℕ → ℕ → List Whole → List Made → Type 0
-AsAnswered i end hs cs = let es = of i (log machine (blank end) hs (calls cs)) in (messages es ≡ accepted i cs) × (notices es ≡ noticed i cs)
+abbrev AsAnswered : ℕ → ℕ → List Counted → List Made → Type 0
+AsAnswered i end hs cs = let es = of i (log counting (blank end) hs (calls cs)) in (messages es ≡ accepted i cs) × (notices es ≡ noticed i cs)
 
-as-answered : (i end : ℕ) (hs : List Whole) → 1 ≤ length hs → length hs ≤ 64 → (cs : List Made) → Answered end hs cs → AsAnswered i end hs cs
+as-answered : (i end : ℕ) (hs : List Counted) → 1 ≤ length hs → length hs ≤ 64 → (cs : List Made) → Answered end hs cs → AsAnswered i end hs cs
 unfolding of
 as-answered i end hs s f [] k = (refl, refl)
 as-answered i end hs s f (refused-setup e list a ∷ cs) k = as-answered i end hs s f cs k
 as-answered i end hs s f (told j m a ∷ cs) k =
     let c : On (Call Message) = record { at = j; it = tell m } in
     let long = step-length end hs c in
-    let rest = as-answered i end (stepIn machine (blank end) hs c) (omega (arith, s, long)) (omega (arith, f, long)) cs (k .1) in
-    let this = tell-happens end hs i j (log machine (blank end) (stepIn machine (blank end) hs c) (calls cs)) m a (told-number end hs s f j m a (k .0)) in
+    let rest = as-answered i end (stepIn counting (blank end) hs c) (omega (arith, s, long)) (omega (arith, f, long)) cs (k .1) in
+    let this = tell-happens end hs i j (log counting (blank end) (stepIn counting (blank end) hs c) (calls cs)) m a (told-number end hs s f j m a (k .0)) in
     (this .0 ∙ ap (λ (l : List Message). if allOf (eqb i j ∷ eqb (a .number) 0 ∷ []) then m ∷ l else l) (rest .0), this .1 ∙ rest .1)
 as-answered i end hs s f (settled j time a ∷ cs) k =
     let c : On (Call Message) = record { at = j; it = settle time } in
     let long = step-length end hs c in
-    let rest = as-answered i end (stepIn machine (blank end) hs c) (omega (arith, s, long)) (omega (arith, f, long)) cs (k .1) in
-    let this = settle-happens end hs i j (log machine (blank end) (stepIn machine (blank end) hs c) (calls cs)) time a
+    let rest = as-answered i end (stepIn counting (blank end) hs c) (omega (arith, s, long)) (omega (arith, f, long)) cs (k .1) in
+    let this = settle-happens end hs i j (log counting (blank end) (stepIn counting (blank end) hs c) (calls cs)) time a
     (settled-number end hs s f j time a (k .0)) (settled-notice end hs s f j time a (k .0)) in
     (this .0 ∙ rest .0, this .1 ∙ ap (λ (l : List Notice). if allOf (eqb i j ∷ eqb (a .answer .number) 0 ∷ []) then a ∷ l else l) (rest .1))
 as-answered i end hs s f (was-read j a ∷ cs) k = as-answered i end hs s f cs (k .1)
 as-answered i end hs s f (next-given j u ∷ cs) k = as-answered i end hs s f cs (k .1)
+as-answered i end hs s f (totals-given j x ∷ cs) k = as-answered i end hs s f cs (k .1)
 
 -- ------------------------------------------------------------------ one more call: settling
 
@@ -133,15 +135,17 @@ one-more 𝓕 b c d i time a q (told j m x ∷ cs) k = (k .0, k .1, one-more �
 one-more 𝓕 b c d i time a q (settled j t x ∷ cs) k = (k .0, k .1, one-more 𝓕 (k .0) c d i time a q cs (k .2))
 one-more 𝓕 b c d i time a q (was-read j x ∷ cs) k = (k .0, one-more 𝓕 b c d i time a q cs (k .1))
 one-more 𝓕 b c d i time a q (next-given j u ∷ cs) k = (k .0, one-more 𝓕 b c d i time a q cs (k .1))
+one-more 𝓕 b c d i time a q (totals-given j x ∷ cs) k = (k .0, one-more 𝓕 b c d i time a q cs (k .1))
 
-the-last : (end i time : ℕ) (a : Notice) (hs : List Whole) (cs : List Made) → Answered end hs (cs ++ (settled i time a ∷ []))
-    → let left = run machine (blank end) hs (calls cs) in a ≡ bookSettles end left (512 * length left) (512 * length left) i time
+the-last : (end i time : ℕ) (a : Notice) (hs : List Counted) (cs : List Made) → Answered end hs (cs ++ (settled i time a ∷ []))
+    → let left = run counting (blank end) hs (calls cs) in a ≡ bookSettles end left (512 * length left) (512 * length left) i time
 the-last end i time a hs [] k = k .0
 the-last end i time a hs (refused-setup e list x ∷ cs) k = the-last end i time a hs cs k
-the-last end i time a hs (told j m x ∷ cs) k = the-last end i time a (stepIn machine (blank end) hs (record { at = j; it = tell m })) cs (k .1)
-the-last end i time a hs (settled j t x ∷ cs) k = the-last end i time a (stepIn machine (blank end) hs (record { at = j; it = settle t })) cs (k .1)
+the-last end i time a hs (told j m x ∷ cs) k = the-last end i time a (stepIn counting (blank end) hs (record { at = j; it = tell m })) cs (k .1)
+the-last end i time a hs (settled j t x ∷ cs) k = the-last end i time a (stepIn counting (blank end) hs (record { at = j; it = settle t })) cs (k .1)
 the-last end i time a hs (was-read j x ∷ cs) k = the-last end i time a hs cs (k .1)
 the-last end i time a hs (next-given j u ∷ cs) k = the-last end i time a hs cs (k .1)
+the-last end i time a hs (totals-given j x ∷ cs) k = the-last end i time a hs cs (k .1)
 
 -- ------------------------------------------------------------------ demand 3
 
@@ -157,8 +161,8 @@ module _ (𝓕 : Family) (d : Demand2 𝓕) (end : ℕ) (list : List ℕ) (b₀ 
   s = started end list b₀ number-0
 
   module _ (b′ : Lent) (cs : List Made) (k : Chain 𝓕 b cs b′) where
-    abbrev left : List Whole
-    left = run machine (blank end) (book end us) (calls cs)
+    abbrev left : List Counted
+    left = run counting (blank end) (book end us) (calls cs)
 
     abbrev follows : Answered end (book end us) cs × (b′ ≡ layout left)
     follows = d .from-setup end list b₀ b b′ a cs p z k
@@ -192,8 +196,8 @@ alike 𝓕 d end time list b₀ b b′ c₀ c c′ a e cs ds p p0 pk q q0 qk ps 
     let us = setupsOf list in
     let on-left = stories 𝓕 d end list b₀ b a p p0 b′ cs pk in
     let on-right = stories 𝓕 d end list c₀ c e q q0 c′ ds qk in
-    let hs = run machine (blank end) (book end us) (calls cs) in
-    let ks = run machine (blank end) (book end us) (calls ds) in
+    let hs = run counting (blank end) (book end us) (calls cs) in
+    let ks = run counting (blank end) (book end us) (calls ds) in
     let many = long 𝓕 d end list b₀ b a p p0 b′ cs pk in
     let each = demands .settled-alike end us (calls cs) (calls ds) time
     (is-settled 𝓕 d end list b₀ b a p p0 b′ cs pk time ps) (is-settled 𝓕 d end list c₀ c e q q0 c′ ds qk time qs)

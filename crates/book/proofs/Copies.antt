@@ -21,7 +21,7 @@ use Rattle.stock.proofs.Laws as stock
 use Rattle.book.specs.Lent.{Lent, bytesOf, Given, calling}
 use Rattle.book.specs.Words.{InShape}
 use Rattle.book.specs.Laws.{Touched}
-use Rattle.book.specs.Demands.{ours, Made, refused-setup, told, settled, was-read, next-given, Chain, MadeOne, told-one, settled-one, OneChain, numberMade, called, madeOf, Copied}
+use Rattle.book.specs.Demands.{ours, Made, refused-setup, told, settled, was-read, next-given, totals-given, Chain, MadeOne, told-one, settled-one, OneChain, numberMade, called, madeOf, Copied}
 use Rattle.book.proofs.Laws.{laws}
 use Rattle.book.proofs.Meaning.{let-in}
 use Rattle.book.proofs.Replay.{given, noticed-is}
@@ -119,6 +119,7 @@ apart i (settled j time a ∷ cs) b b′ s l k =
     go false q t rest = rw q (subst (λ x. OneChain x (madeOf i cs) (bytesOf i b′)) (t .others i (eqb-false i j q)) rest)
 apart i (was-read j a ∷ cs) b b′ s l k = apart i cs b b′ s l (k .1)
 apart i (next-given j u ∷ cs) b b′ s l k = apart i cs b b′ s l (k .1)
+apart i (totals-given j x ∷ cs) b b′ s l k = apart i cs b b′ s l (k .1)
 
 pub copied : Copied
 copied i j cs ds b b′ c c′ s l s′ l′ e k k′ entries is q =

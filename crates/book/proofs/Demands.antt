@@ -3,14 +3,14 @@
 use Prim.Native.Nat.{ℕ}
 use mathlib.Core.Path.{refl, sym, subst}
 use Rattle.forms.specs.Words.{Gives}
-use Rattle.rules.specs.Stock.{Whole}
-use Rattle.rules.specs.Numbers.{zeros, noNotice, tellAnswer, settleAnswer, readAnswer, noneComing, nextAnswer}
+use Rattle.rules.specs.Counted.{Counted, tellAnswer, settleAnswer, readAnswer, nextAnswer, noSummary, totalsAnswer}
+use Rattle.rules.specs.Numbers.{zeros, noNotice, noneComing}
 use Rattle.rules.specs.Words.{refusals, settleRefusals, readRefusals}
 use Rattle.rules.specs.declared.Message.{Message}
 use Rattle.rules.specs.declared.Notice.{Notice}
 use Rattle.rules.proofs.Demands.{demands as rules}
 use Rattle.stock.specs.View.{telling, settling}
-use Rattle.book.specs.Lent.{calling, readingIn, comingIn}
+use Rattle.book.specs.Lent.{calling, readingIn, comingIn, totallingIn}
 use Rattle.book.specs.Setup.{setting}
 use Rattle.book.specs.Laws.{AnsweredBy}
 use Rattle.book.specs.Demands.{ours, Demand1, Demands}
@@ -22,23 +22,11 @@ use Rattle.book.proofs.Alike.{stories-told, alike}
 use Rattle.book.proofs.After.{after-setup}
 use Rattle.book.proofs.Copies.{copied}
 use Rattle.book.proofs.Entries.{journals-grow}
+use Rattle.book.proofs.TotalsTold.{totals-told}
 use Rattle.book.proofs.LimitPauses.{pauses-apart, pauses-few}
 use Rattle.book.proofs.Reasons.{reasons}
 use Rattle.book.proofs.Replay.{recovery}
-use Rattle.book.proofs.Wrong.{silent-fails, refusing-fails, fixed-fails, leaving-fails, acknowledging-fails, blind-fails, unaware-fails}
-
--- the number in a stock's answer is that of its table
-told : (m : Message) (h : Whole) → Gives (refusals m h) (tellAnswer m h .number)
-told m h = subst (Gives (refusals m h)) (sym (rules .shows h .0 m .0)) (rules .numbers h _ .0 m .0 refl)
-
-settled : (time : ℕ) (h : Whole) → Gives (settleRefusals time h) (settleAnswer time h .answer .number)
-settled time h = subst (Gives (settleRefusals time h)) (sym (rules .shows h .1 time .0 .0)) (rules .numbers h _ .1 time .0 refl)
-
-was-read : (h : Whole) → Gives (readRefusals h) (readAnswer h .number)
-was-read h = subst (Gives (readRefusals h)) (sym (rules .shows h .2 .0)) (rules .numbers h _ .2 .0 refl)
-
-next-given : (h : Whole) → Gives (readRefusals h) (nextAnswer h .number)
-next-given h = subst (Gives (readRefusals h)) (sym (rules .next-is h .0)) (rules .numbers h _ .2 .0 refl)
+use Rattle.book.proofs.Wrong.{silent-fails, refusing-fails, fixed-fails, leaving-fails, acknowledging-fails, blind-fails, unaware-fails, uncounting-fails}
 
 demand1 : Demand1 ours
 demand1 = record {
@@ -47,20 +35,24 @@ demand1 = record {
   settle-answered = λ i time b. (calling i (settling time) noNotice b .answer, calling i (settling time) noNotice b .book, refl);
   read-answered = λ i b. (readingIn i b, refl);
   next-answered = λ i b. (comingIn i b, refl);
+  totals-answered = λ i b. (totallingIn i b, refl);
   setup-number = demand2 .setup-number;
   tell-number = λ i m b a b′ h e p.
-      number-by i b a (tellAnswer m h) zeros (λ x. x .number) (λ n. refl) _ (told m h) (laws .told-by-the-rules i m b a b′ h e p .0);
+      number-by i b a (tellAnswer m h) zeros (λ x. x .number) (λ n. refl) _ (rules .totals-numbers h .0 m) (laws .told-by-the-rules i m b a b′ h e p .0);
   settle-number = λ i time b a b′ h e p.
-      number-by i b a (settleAnswer time h) noNotice (λ (x : Notice). x .answer .number) (λ n. refl) _ (settled time h) (laws .settled-by-the-rules i time b a b′ h e p .0);
+      number-by i b a (settleAnswer time h) noNotice (λ (x : Notice). x .answer .number) (λ n. refl) _ (rules .totals-numbers h .1 time) (laws .settled-by-the-rules i time b a b′ h e p .0);
   read-number = λ i b a h e p.
-      number-by i b a (readAnswer h) zeros (λ x. x .number) (λ n. refl) _ (was-read h) (subst (λ x. AnsweredBy i b x (readAnswer h) zeros) (sym e) (laws .read-by-the-rules i b h p));
+      number-by i b a (readAnswer h) zeros (λ x. x .number) (λ n. refl) _ (rules .totals-numbers h .2) (subst (λ x. AnsweredBy i b x (readAnswer h) zeros) (sym e) (laws .read-by-the-rules i b h p));
   next-number = λ i b u h e p.
-      number-by i b u (nextAnswer h) noneComing (λ x. x .number) (λ n. refl) _ (next-given h) (subst (λ x. AnsweredBy i b x (nextAnswer h) noneComing) (sym e) (laws .next-by-the-rules i b h p));
+      number-by i b u (nextAnswer h) noneComing (λ x. x .number) (λ n. refl) _ (rules .totals-numbers h .3) (subst (λ x. AnsweredBy i b x (nextAnswer h) noneComing) (sym e) (laws .next-by-the-rules i b h p));
+  totals-number = λ i b x h e p.
+      number-by i b x (totalsAnswer h) noSummary (λ y. y .number) (λ n. refl) _ (rules .totals-numbers h .4) (subst (λ y. AnsweredBy i b y (totalsAnswer h) noSummary) (sym e) (laws .totals-by-the-rules i b h p));
   setup-determined = laws .setup-determined;
   tell-determined = laws .tell-determined;
   settle-determined = laws .settle-determined;
   read-determined = laws .read-determined;
   next-determined = laws .next-determined;
+  totals-determined = laws .totals-determined;
   setup-leaves = laws .set-up-refused;
   tell-leaves = laws .told-refused;
   settle-leaves = laws .settled-refused;
@@ -74,6 +66,7 @@ demands = record {
   demand3 = alike;
   after-setup = after-setup;
   stories-told = stories-told;
+  totals-told = totals-told;
   pauses-apart = pauses-apart;
   pauses-few = pauses-few;
   one-stock = one-stock;
@@ -87,4 +80,5 @@ demands = record {
   acknowledging-fails = acknowledging-fails;
   blind-fails = blind-fails;
   unaware-fails = unaware-fails;
+  uncounting-fails = uncounting-fails;
 }

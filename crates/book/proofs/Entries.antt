@@ -13,7 +13,7 @@ use Rattle.forms.proofs.Choice.{if-true, if-false}
 use Rattle.forms.proofs.Decides.{either-way, by-eq}
 use Rattle.rules.specs.Machine.{journal}
 use Rattle.rules.proofs.Journal.{journal-append}
-use Rattle.book.specs.Demands.{Made, refused-setup, told, settled, was-read, next-given, MadeOne, told-one, settled-one, numberMade, madeOf, journalOf, JournalsGrow}
+use Rattle.book.specs.Demands.{Made, refused-setup, told, settled, was-read, next-given, totals-given, MadeOne, told-one, settled-one, numberMade, madeOf, journalOf, JournalsGrow}
 
 -- one more of a stock's calls
 one-more : (b : Bool) (x : MadeOne) (ws xs ys : List MadeOne) → ws ≡ xs ++ ys → (if b then x ∷ ws else ws) ≡ (if b then x ∷ xs else xs) ++ ys
@@ -29,6 +29,7 @@ module _ (i : ℕ) where
   made-append (settled j time a ∷ cs) ds = one-more (eqb i j) (settled-one time a) _ _ _ (made-append cs ds)
   made-append (was-read j a ∷ cs) ds = made-append cs ds
   made-append (next-given j u ∷ cs) ds = made-append cs ds
+  made-append (totals-given j x ∷ cs) ds = made-append cs ds
 
   -- what a call adds to the calls on the stock, and to its journal
   module _ (cs : List Made) (c : Made) where
@@ -72,6 +73,7 @@ journals-grow i = (
     a-refused-setup = λ cs end numbers a. none-more i cs (refused-setup end numbers a) refl;
     a-reading = λ cs j a. none-more i cs (was-read j a) refl;
     a-next = λ cs j u. none-more i cs (next-given j u) refl;
+    some-totals = λ cs j x. none-more i cs (totals-given j x) refl;
   },
   record {
     at-first = refl;
@@ -80,5 +82,6 @@ journals-grow i = (
     a-refused-setup = λ cs end numbers a. not-entered i cs (refused-setup end numbers a) [] refl refl;
     a-reading = λ cs j a. not-entered i cs (was-read j a) [] refl refl;
     a-next = λ cs j u. not-entered i cs (next-given j u) [] refl refl;
+    some-totals = λ cs j x. not-entered i cs (totals-given j x) [] refl refl;
   },
 )

@@ -3,11 +3,11 @@
 use Rattle.forms.proofs.Promises.{agree}
 use Rattle.rules.specs.Numbers.{zeros, noNotice}
 use Rattle.stock.specs.View.{telling, settling}
-use Rattle.book.specs.Lent.{calling, readingIn, comingIn}
+use Rattle.book.specs.Lent.{calling, readingIn, comingIn, totallingIn}
 use Rattle.book.specs.Setup.{setting}
 use Rattle.book.specs.Laws.{Laws}
 use Rattle.book.proofs.Calls.{let-through, written, of-others, leaves, told-refused, settled-refused, told-touches, settled-touches}
-use Rattle.book.proofs.Meaning.{lent-is, one-meaning, told-by-the-rules, settled-by-the-rules, read-by-the-rules, next-by-the-rules}
+use Rattle.book.proofs.Meaning.{lent-is, one-meaning, told-by-the-rules, settled-by-the-rules, read-by-the-rules, next-by-the-rules, totals-by-the-rules}
 use Rattle.book.proofs.Layouts.{layout-is}
 use Rattle.book.proofs.SettingUp as setting-up
 
@@ -23,6 +23,7 @@ laws = record {
   settled-by-the-rules = settled-by-the-rules;
   read-by-the-rules = read-by-the-rules;
   next-by-the-rules = next-by-the-rules;
+  totals-by-the-rules = totals-by-the-rules;
   call-leaves = λ A. leaves {A = A};
   told-refused = told-refused;
   settled-refused = settled-refused;
@@ -36,5 +37,6 @@ laws = record {
   settle-determined = λ i time b. agree (calling i (settling time) noNotice b);
   read-determined = λ i b. agree (readingIn i b);
   next-determined = λ i b. agree (comingIn i b);
+  totals-determined = λ i b. agree (totallingIn i b);
   setup-determined = λ end list b. agree (setting end list b);
 }

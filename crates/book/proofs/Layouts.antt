@@ -11,7 +11,8 @@ use lib.Dec.{ltb}
 use lib.ListN.{length, getD, set, length-append, length-map, length-replicate, length-drop, getD-replicate, List·getD-append}
 use lib.Seq.{ext-getD}
 use Rattle.forms.proofs.Choice.{if-arms}
-use Rattle.rules.specs.Stock.{Trade, Whole}
+use Rattle.rules.specs.Stock.{Trade}
+use Rattle.rules.specs.Counted.{Counted}
 use Rattle.rules.specs.Machine.{Every}
 use Rattle.rules.specs.Book.{blank}
 use Rattle.stock.specs.View.{Bytes, bytes, view, lay, shaped}
@@ -74,26 +75,26 @@ laid-again front new h k =
 -- ------------------------------------------------------------------ one stock's bytes
 
 -- a window that fits
-abbrev pub Fits : Whole → Type 0
-Fits h = length (h .window) ≤ 512
+abbrev pub Fits : Counted → Type 0
+Fits h = length (h .whole .window) ≤ 512
 
-module _ (h : Whole) (f : Fits h) where
+module _ (h : Counted) (f : Fits h) where
   pub times-512 : length (stockBytes h .times) ≡ 512
-  times-512 = length-front (map (λ t. t .at) (h .window)) (simp length-map f)
+  times-512 = length-front (map (λ t. t .at) (h .whole .window)) (simp length-map f)
 
   pub prices-512 : length (stockBytes h .prices) ≡ 512
-  prices-512 = length-front (map (λ t. t .price) (h .window)) (simp length-map f)
+  prices-512 = length-front (map (λ t. t .price) (h .whole .window)) (simp length-map f)
 
   pub in-shape : shaped (stockBytes h) ≡ true
   in-shape = stocks.laws .shaped-is (stockBytes h) .1 (times-512, prices-512)
 
-  pub lay-again : (h′ : Whole) → Fits h′ → lay h′ (stockBytes h) ≡ stockBytes h′
+  pub lay-again : (h′ : Counted) → Fits h′ → lay h′ (stockBytes h) ≡ stockBytes h′
   lay-again h′ f′ =
       simp (laid-over (λ t. t .at), laid-over (λ t. t .price))
     where
-      laid-over : (g : Trade → ℕ) → laid (length (h .window)) (map g (h′ .window)) (laid 0 (map g (h .window)) empty) ≡ laid 0 (map g (h′ .window)) empty
-      laid-over g = let e : length (map g (h .window)) ≡ length (h .window) = length-map (h .window) g in
-          rw (← e) (laid-again (map g (h .window)) (map g (h′ .window)) (rw e f) (simp length-map f′))
+      laid-over : (g : Trade → ℕ) → laid (length (h .whole .window)) (map g (h′ .whole .window)) (laid 0 (map g (h .whole .window)) empty) ≡ laid 0 (map g (h′ .whole .window)) empty
+      laid-over g = let e : length (map g (h .whole .window)) ≡ length (h .whole .window) = length-map (h .whole .window) g in
+          rw (← e) (laid-again (map g (h .whole .window)) (map g (h′ .whole .window)) (rw e f) (simp length-map f′))
 
 -- ------------------------------------------------------------------ a book's bytes
 
@@ -108,11 +109,11 @@ map-set f [] i x = refl
 map-set f (y ∷ l) zero x = refl
 map-set {B = B} f (y ∷ l) (suc i) x = ap (λ (r : List B). f y ∷ r) (map-set f l i x)
 
-rows : (f : Whole → List ℕ) → ((h : Whole) → Fits h → length (f h) ≡ 512) → (hs : List Whole) → Every Fits hs → Rows (map f hs)
+rows : (f : Counted → List ℕ) → ((h : Counted) → Fits h → length (f h) ≡ 512) → (hs : List Counted) → Every Fits hs → Rows (map f hs)
 rows f r [] a = tt
 rows f r (h ∷ hs) a = (r h (a .0), rows f r hs (a .1))
 
-module _ (hs : List Whole) (all : Every Fits hs) where
+module _ (hs : List Counted) (all : Every Fits hs) where
   rows-times : Rows (map (λ h. stockBytes h .times) hs)
   rows-times = rows (λ h. stockBytes h .times) times-512 hs all
 
@@ -129,14 +130,14 @@ module _ (hs : List Whole) (all : Every Fits hs) where
   length-prices = length-rows (map (λ h. stockBytes h .prices) hs) rows-prices ∙ ap (λ n. 512 * n) (length-map hs (λ h. stockBytes h .prices))
 
   module _ (i : ℕ) (l : i < length hs) where
-    pub bytes-of : (d : Whole) → bytesOf i (layout hs) ≡ stockBytes (getD hs i d)
+    pub bytes-of : (d : Counted) → bytesOf i (layout hs) ≡ stockBytes (getD hs i d)
     bytes-of d =
         let kept = getD-of (λ h. stockBytes h .kept) hs i d noRecord l in
         let times = part-row (map (λ h. stockBytes h .times) hs) rows-times i (simp length-map l) ∙ getD-of (λ h. stockBytes h .times) hs i d [] l in
         let prices = part-row (map (λ h. stockBytes h .prices) hs) rows-prices i (simp length-map l) ∙ getD-of (λ h. stockBytes h .prices) hs i d [] l in
         rw (kept, times, prices)
 
-    pub with-bytes : (h′ : Whole) → withBytes i (stockBytes h′) (layout hs) ≡ layout (set hs i h′)
+    pub with-bytes : (h′ : Counted) → withBytes i (stockBytes h′) (layout hs) ≡ layout (set hs i h′)
     with-bytes h′ =
         let kept = map-set (λ h. stockBytes h .kept) hs i h′ in
         let times = put-row (map (λ h. stockBytes h .times) hs) (stockBytes h′ .times) rows-times i (simp length-map l) ∙ ap flatten (map-set (λ h. stockBytes h .times) hs i h′) in
@@ -146,8 +147,8 @@ module _ (hs : List Whole) (all : Every Fits hs) where
 -- ------------------------------------------------------------------ entry by entry
 
 -- what stands in a stock's bytes is read of them again
-pub read-again : (h : Whole) → view (stockBytes h) ≡ h
-read-again h = stocks.laws .read-back h (bytes (record { stock = h .stock; count = 0 }) empty empty)
+pub read-again : (h : Counted) → view (stockBytes h) ≡ h
+read-again h = stocks.laws .read-back h (bytes (record { stock = h .whole .stock; count = 0; totals = h .totals }) empty empty)
 
 pub layout-is : LayoutIs
 layout-is hs all = record {
@@ -158,8 +159,8 @@ layout-is hs all = record {
   unused = λ i l j c k.
       let h = getD hs i (blank 0) in
       let is = bytes-of hs all i l (blank 0) in
-      let behind-it : length (h .window) ≤ j = subst (λ (x : Bytes). x .kept .count ≤ j) is c in (
-        sym (sym (part-is i (layout hs .times) .1 j k) ∙ ap (λ (x : Bytes). getD (x .times) j 0) is ∙ behind (map (λ t. t .at) (h .window)) j (simp length-map behind-it) k),
-        sym (sym (part-is i (layout hs .prices) .1 j k) ∙ ap (λ (x : Bytes). getD (x .prices) j 0) is ∙ behind (map (λ t. t .price) (h .window)) j (simp length-map behind-it) k),
+      let behind-it : length (h .whole .window) ≤ j = subst (λ (x : Bytes). x .kept .count ≤ j) is c in (
+        sym (sym (part-is i (layout hs .times) .1 j k) ∙ ap (λ (x : Bytes). getD (x .times) j 0) is ∙ behind (map (λ t. t .at) (h .whole .window)) j (simp length-map behind-it) k),
+        sym (sym (part-is i (layout hs .prices) .1 j k) ∙ ap (λ (x : Bytes). getD (x .prices) j 0) is ∙ behind (map (λ t. t .price) (h .whole .window)) j (simp length-map behind-it) k),
       );
 }

@@ -16,6 +16,7 @@ pub mod Alike
 pub mod Wrong
 pub mod After
 pub mod LimitPauses
+pub mod TotalsTold
 pub mod Reasons
 pub mod Replay
 pub mod Entries

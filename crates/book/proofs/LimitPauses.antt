@@ -6,7 +6,7 @@ use mathlib.Core.Path.{subst}
 use native.Mathlib.Omega.{arith}
 use lib.ListN.{length}
 use Rattle.rules.specs.Machine.{Calls, notices}
-use Rattle.rules.specs.Book.{machine, Accepted, story}
+use Rattle.rules.specs.Book.{counting, Accepted, story}
 use Rattle.rules.specs.Readings.{limitPauses}
 use Rattle.rules.specs.LimitPauses.{Apart, leastDistance, pausesBound}
 use Rattle.rules.specs.declared.Setup.{Setup}
@@ -18,7 +18,7 @@ use Rattle.book.proofs.Alike.{number-0, records, stories-told}
 
 -- what holds for the limit pauses of every story holds for those of the calls
 by-the-rules : (Holds : List ℕ → Type 0)
-    → ((end : ℕ) (us : List Setup) → Accepted end us → (cs : Calls machine) (i : ℕ) → i < length us → Holds (limitPauses (notices (story end us cs i))))
+    → ((end : ℕ) (us : List Setup) → Accepted end us → (cs : Calls counting) (i : ℕ) → i < length us → Holds (limitPauses (notices (story end us cs i))))
     → (𝓕 : Family) → Demand2 𝓕 → OfLimitPauses 𝓕 Holds
 by-the-rules Holds all 𝓕 d end list b₀ b b′ a cs p z k i here =
     let long = records 𝓕 d end list b₀ b a p z b′ cs k in

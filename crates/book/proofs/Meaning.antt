@@ -12,17 +12,18 @@ use lib.Seq.{ext-getD}
 use Rattle.forms.specs.Words.{Number, Gives}
 use Rattle.forms.proofs.Choice.{if-true, if-false}
 use Rattle.forms.proofs.Decides.{take, skip}
-use Rattle.rules.specs.Stock.{Trade, Whole}
-use Rattle.rules.specs.Numbers.{zeros, noNotice, afterTelling, afterSettling, tellAnswer, settleAnswer, readAnswer, noneComing, nextAnswer}
+use Rattle.rules.specs.Stock.{Trade}
+use Rattle.rules.specs.Counted.{Counted, afterTelling, afterSettling, tellAnswer, settleAnswer, readAnswer, nextAnswer, noSummary, totalsAnswer}
+use Rattle.rules.specs.Numbers.{zeros, noNotice, noneComing}
 use Rattle.rules.specs.declared.Message.{Message}
 use Rattle.rules.proofs.Answers.{Called, wrong-shape, no-stock, there, called}
-use Rattle.stock.specs.View.{Bytes, view, shaped, Outcome, telling, settling, reading, coming}
+use Rattle.stock.specs.View.{Bytes, view, shaped, Outcome, telling, settling, reading, coming, totalling}
 use Rattle.stock.proofs.Laws as stock
 use Rattle.calls.specs.Parts.{part}
 use Rattle.calls.proofs.Parts.{part-is}
 use Rattle.book.specs.Lent.{Lent, bytesOf, Given, callNumber, calling, asking}
 use Rattle.book.specs.Words.{recordAt, noTrade, Means, InShape, callTable}
-use Rattle.book.specs.Laws.{LentIs, OneMeaning, Touched, AnsweredBy, ToldByTheRules, SettledByTheRules, ReadByTheRules, NextByTheRules}
+use Rattle.book.specs.Laws.{LentIs, OneMeaning, Touched, AnsweredBy, ToldByTheRules, SettledByTheRules, ReadByTheRules, NextByTheRules, TotalsByTheRules}
 use Rattle.book.proofs.Calls.{let-through, bytes-shaped, told-touches, settled-touches}
 
 -- ------------------------------------------------------------------ the places of a stock
@@ -39,15 +40,16 @@ past-part i xs j h = let few = part-is i xs .0 in List·getD-eq-default (part i 
 module _ (i : ℕ) (b : Lent) where
   -- trade j of those that are read
   read-at : (j : ℕ) → j < recordAt i b .count
-      → getD (view (bytesOf i b) .window) j noTrade ≡ record { at = getD (part i (b .times)) j 0; price = getD (part i (b .prices)) j 0 }
+      → getD (view (bytesOf i b) .whole .window) j noTrade ≡ record { at = getD (part i (b .times)) j 0; price = getD (part i (b .prices)) j 0 }
   read-at j h = stock.laws .view-is (bytesOf i b) .2 j noTrade h
 
-  counted : length (view (bytesOf i b) .window) ≡ recordAt i b .count
+  counted : length (view (bytesOf i b) .whole .window) ≡ recordAt i b .count
   counted = stock.laws .view-is (bytesOf i b) .1
 
   is-meant : Means i b (view (bytesOf i b))
   is-meant = record {
     stock = stock.laws .view-is (bytesOf i b) .0;
+    totals = stock.laws .view-is (bytesOf i b) .3;
     count = counted;
     held = λ j l h.
         let t = read-at j (omega (arith, l, counted)) in
@@ -56,25 +58,25 @@ module _ (i : ℕ) (b : Lent) where
   }
 
   -- trade j of two windows that the same bytes mean
-  same-trade : (h k : Whole) → Means i b h → Means i b k → (j : ℕ) → j < length (h .window) → j < length (k .window) → getD (h .window) j noTrade ≡ getD (k .window) j noTrade
+  same-trade : (h k : Counted) → Means i b h → Means i b k → (j : ℕ) → j < length (h .whole .window) → j < length (k .whole .window) → getD (h .whole .window) j noTrade ≡ getD (k .whole .window) j noTrade
   same-trade h k p q j l m = go (ltb j 512) refl
     where
       trade : (s t : Trade) → s .at ≡ t .at → s .price ≡ t .price → s ≡ t
       trade s t e f = λ x. record { at = e x; price = f x }
 
-      go : (c : Bool) → ltb j 512 ≡ c → getD (h .window) j noTrade ≡ getD (k .window) j noTrade
+      go : (c : Bool) → ltb j 512 ≡ c → getD (h .whole .window) j noTrade ≡ getD (k .whole .window) j noTrade
       go true e =
           let f = ltb-true j 512 e in
           trade _ _ (p .held j l f .0 ∙ sym (q .held j m f .0)) (p .held j l f .1 ∙ sym (q .held j m f .1))
       go false e = let f = ltb-false j 512 e in p .beyond j l f ∙ sym (q .beyond j m f)
 
-  same-meaning : (h k : Whole) → Means i b h → Means i b k → h ≡ k
+  same-meaning : (h k : Counted) → Means i b h → Means i b k → h ≡ k
   same-meaning h k p q =
-      let long : length (h .window) ≡ length (k .window) = p .count ∙ sym (q .count) in
-      whole h k (p .stock ∙ sym (q .stock)) (ext-getD noTrade (h .window) (k .window) long (λ j l. same-trade h k p q j l (omega (arith, l, long))))
+      let long : length (h .whole .window) ≡ length (k .whole .window) = p .count ∙ sym (q .count) in
+      whole h k (p .stock ∙ sym (q .stock)) (p .totals ∙ sym (q .totals)) (ext-getD noTrade (h .whole .window) (k .whole .window) long (λ j l. same-trade h k p q j l (omega (arith, l, long))))
     where
-      whole : (h k : Whole) → h .stock ≡ k .stock → h .window ≡ k .window → h ≡ k
-      whole h k e f = λ x. record { stock = e x; window = f x }
+      whole : (h k : Counted) → h .whole .stock ≡ k .whole .stock → h .totals ≡ k .totals → h .whole .window ≡ k .whole .window → h ≡ k
+      whole h k e t f = λ x. record { whole = record { stock = e x; window = f x }; totals = t x }
 
 pub one-meaning : OneMeaning
 one-meaning i b h = ((λ p. same-meaning i b h (view (bytesOf i b)) p (is-meant i b)), λ e. subst (Means i b) (sym e) (is-meant i b))
@@ -133,12 +135,12 @@ in-parts i b e = bytes-shaped i b (let-through i b e)
 -- ------------------------------------------------------------------ telling and settling
 
 -- what a step answers of a stock's bytes, and what these mean then, is the rules' of what they meant
-abbrev ByTheRules : {A : Type 0} → (Bytes → Outcome A) → (Whole → A) → (Whole → Whole) → Type 0
+abbrev ByTheRules : {A : Type 0} → (Bytes → Outcome A) → (Counted → A) → (Counted → Counted) → Type 0
 ByTheRules step own next = (x : Bytes) → shaped x ≡ true → (step x .answer ≡ own (view x)) × (view (step x .bytes) ≡ next (view x))
 
-module _ {A : Type 0} (i : ℕ) (step : Bytes → Outcome A) (beside : ℕ → A) (b : Lent) (own : Whole → A) (next : Whole → Whole)
+module _ {A : Type 0} (i : ℕ) (step : Bytes → Outcome A) (beside : ℕ → A) (b : Lent) (own : Counted → A) (next : Counted → Counted)
     (rules : ByTheRules step own next) (r : A) (b′ : Lent) (e : _≡_ {A = Given A} (record { answer = r; book = b′ }) (calling i step beside b))
-    (touched : Touched i (step (bytesOf i b) .bytes) b b′) (h : Whole) (p : Means i b h) where
+    (touched : Touched i (step (bytesOf i b) .bytes) b b′) (h : Counted) (p : Means i b h) where
   is : h ≡ view (bytesOf i b)
   is = one-meaning i b h .0 p
 
@@ -171,10 +173,10 @@ pub settled-by-the-rules : SettledByTheRules
 settled-by-the-rules i time b r b′ h e p =
     by-the-rules i (settling time) noNotice b (settleAnswer time) (afterSettling time) (settled-rules time) r b′ e (settled-touches i time b r b′ e) h p
 
--- ------------------------------------------------------------------ reading, and what comes next
+-- ------------------------------------------------------------------ reading, what comes next, and the totals
 
-asked-by-the-rules : {A : Type 0} (given : Bytes → A) (own : Whole → A) (beside : ℕ → A) → ((x : Bytes) → shaped x ≡ true → given x ≡ own (view x))
-    → (i : ℕ) (b : Lent) (h : Whole) → Means i b h → AnsweredBy i b (asking i given beside b) (own h) beside
+asked-by-the-rules : {A : Type 0} (given : Bytes → A) (own : Counted → A) (beside : ℕ → A) → ((x : Bytes) → shaped x ≡ true → given x ≡ own (view x))
+    → (i : ℕ) (b : Lent) (h : Counted) → Means i b h → AnsweredBy i b (asking i given beside b) (own h) beside
 unfolding asking
 asked-by-the-rules given own beside rules i b h p =
     let is : h ≡ view (bytesOf i b) = one-meaning i b h .0 p in
@@ -187,3 +189,6 @@ read-by-the-rules = asked-by-the-rules reading readAnswer zeros (λ x. stock.law
 
 pub next-by-the-rules : NextByTheRules
 next-by-the-rules = asked-by-the-rules coming nextAnswer noneComing (λ x. stock.laws .next-by-the-rules x .0)
+
+pub totals-by-the-rules : TotalsByTheRules
+totals-by-the-rules = asked-by-the-rules totalling totalsAnswer noSummary (λ x. stock.laws .totals-by-the-rules x .0)

@@ -8,7 +8,8 @@ use lib.ListN.{length}
 use Rattle.forms.specs.Words.{_and_, Number, Gives}
 use Rattle.forms.proofs.Decides.{Stable, stable, past, skip, exactly}
 use Rattle.rules.specs.Stock.{Whole}
-use Rattle.rules.specs.Words.{refusals, ReachesTable}
+use Rattle.rules.specs.Words as words
+use Rattle.rules.specs.TotalsWords.{refusals}
 use Rattle.rules.specs.declared.Message.{Message}
 use Rattle.rules.specs.declared.Stock.{Stock}
 use Rattle.rules.proofs.Reasons.{gives-9, gives-15, gives-16}
@@ -32,12 +33,15 @@ own i b table n l = (
 )
 
 module _ (𝓕 : Family) (d : Demand1 𝓕) where
-  for : (n : ℕ) (Words : Stock → Message → Type 0) → 3 < n → ((m : Message) (h : Whole) → Gives (refusals m h) n ↔ (ReachesTable m h and Words (h .stock) m))
-      → RefusedFor 𝓕 n Words
+  for : (n : ℕ) (Words : Stock → Message → Type 0) → 3 < n
+      → ((m : Message) (h : Whole) → Gives (words.refusals m h) n ↔ (words.ReachesTable m h and Words (h .stock) m)) → RefusedFor 𝓕 n Words
   for n Words l gives i m b a b′ h told means =
       Iff·trans (exactly _ _ n (d .tell-number i m b a b′ h told means)) (Iff·trans (own i b (refusals m h) n l) (
-        (λ (shape, (there, g)). (shape, (there, gives m h .0 g))),
-        (λ (shape, (there, words)). (shape, (there, gives m h .1 words))),
+        (λ (shape, (there, g)).
+            let right = past 1 n _ _ (λ e. omega arith) g in
+            let k = gives m (h .whole) .0 (right .1) in
+            (shape, (there, ((right .0, k .0), k .1)))),
+        (λ (shape, (there, (reaches, own))). (shape, (there, skip 1 n _ _ (reaches .0) (gives m (h .whole) .1 (reaches .1, own))))),
       ))
 
   pub reasons : Reasons 𝓕

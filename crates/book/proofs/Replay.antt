@@ -11,24 +11,24 @@ use lib.Dec.{eqb}
 use lib.ListN.{length, getD, length-map}
 use Rattle.forms.specs.Choice.{if_then_else_, allOf}
 use Rattle.forms.specs.Words.{Some}
-use Rattle.rules.specs.Stock.{Whole}
+use Rattle.rules.specs.Counted.{Counted, fresh, settles, tellAnswer, settleAnswer}
 use Rattle.rules.specs.Machine.{On, of, Every, journal, IsJournal, Call, tell, settle, number, Asked, numberOf, Calls, stock, stepIn, run, asked}
 use Rattle.rules.specs.Machine as machines
-use Rattle.rules.specs.Book.{machine, noSetup, blank, book, now, askedOf}
+use Rattle.rules.specs.Book.{counting, noSetup, blank, book, now, askedOf}
 use Rattle.rules.specs.Book as books
-use Rattle.rules.specs.Numbers.{fresh, settles, tellAnswer, settleAnswer}
 use Rattle.rules.specs.Demands.{SetUpAlike}
 use Rattle.rules.specs.Demands as rules
 use Rattle.rules.specs.declared.Message.{Message}
 use Rattle.rules.specs.declared.Notice.{Notice}
 use Rattle.rules.specs.declared.Setup.{Setup}
+use Rattle.rules.proofs.Answers.{told-number, settled-number}
 use Rattle.rules.proofs.Demands.{demands}
 use Rattle.rules.proofs.Journal.{refused-in, run-append}
 use Rattle.calls.specs.Setup.{setupsOf}
 use Rattle.calls.proofs.Setups.{setups-are, fours}
 use Rattle.book.specs.Lent.{Lent, bytesOf}
 use Rattle.book.specs.Layout.{stockBytes, layout}
-use Rattle.book.specs.Demands.{Family, Made, refused-setup, told, settled, was-read, next-given, calls, Answered, noticed, Demand2, MadeOne, told-one, settled-one, numberMade, callMade, called, madeOf, journalOf, Ran, SameStock, Recovery}
+use Rattle.book.specs.Demands.{Family, Made, refused-setup, told, settled, was-read, next-given, totals-given, calls, Answered, noticed, Demand2, MadeOne, told-one, settled-one, numberMade, callMade, called, madeOf, journalOf, Ran, SameStock, Recovery}
 use Rattle.book.proofs.Layouts.{length-records, bytes-of}
 use Rattle.book.proofs.Chains.{Started, started, step-length, run-length, all-fit}
 use Rattle.book.proofs.Alike.{number-0}
@@ -99,6 +99,7 @@ module _ (i : ℕ) where
       go false q y r k = rw q k
   noticed-is (was-read j a ∷ cs) = noticed-is cs
   noticed-is (next-given j u ∷ cs) = noticed-is cs
+  noticed-is (totals-given j x ∷ cs) = noticed-is cs
 
   noticed-append : (cs ds : List Made) → noticed i (cs ++ ds) ≡ noticed i cs ++ noticed i ds
   unfolding if_then_else_ allOf
@@ -113,6 +114,7 @@ module _ (i : ℕ) where
       go false q k = rw q k
   noticed-append (was-read j a ∷ cs) ds = noticed-append cs ds
   noticed-append (next-given j u ∷ cs) ds = noticed-append cs ds
+  noticed-append (totals-given j x ∷ cs) ds = noticed-append cs ds
 
   -- the calls on a stock
   called-is : (cs : List Made) → of i (calls cs) ≡ called (madeOf i cs)
@@ -123,60 +125,63 @@ module _ (i : ℕ) where
   called-is (settled j time a ∷ cs) = one-called (eqb i j) (settled-one time a) _ _ (called-is cs)
   called-is (was-read j a ∷ cs) = called-is cs
   called-is (next-given j u ∷ cs) = called-is cs
+  called-is (totals-given j x ∷ cs) = called-is cs
 
 calls-append : (cs ds : List Made) → calls (cs ++ ds) ≡ calls cs ++ calls ds
 calls-append [] ds = refl
 calls-append (refused-setup end list a ∷ cs) ds = calls-append cs ds
-calls-append (told j m a ∷ cs) ds = ap (λ (l : Calls machine). record { at = j; it = tell m } ∷ l) (calls-append cs ds)
-calls-append (settled j time a ∷ cs) ds = ap (λ (l : Calls machine). record { at = j; it = settle time } ∷ l) (calls-append cs ds)
+calls-append (told j m a ∷ cs) ds = ap (λ (l : Calls counting). record { at = j; it = tell m } ∷ l) (calls-append cs ds)
+calls-append (settled j time a ∷ cs) ds = ap (λ (l : Calls counting). record { at = j; it = settle time } ∷ l) (calls-append cs ds)
 calls-append (was-read j a ∷ cs) ds = calls-append cs ds
 calls-append (next-given j u ∷ cs) ds = calls-append cs ds
+calls-append (totals-given j x ∷ cs) ds = calls-append cs ds
 
 -- the answers of a first part, and those of the rest, of the book that the first part left
-answered-append : (end : ℕ) (hs : List Whole) (cs ds : List Made) → Answered end hs (cs ++ ds)
-    → Answered end hs cs × Answered end (run machine (blank end) hs (calls cs)) ds
+answered-append : (end : ℕ) (hs : List Counted) (cs ds : List Made) → Answered end hs (cs ++ ds)
+    → Answered end hs cs × Answered end (run counting (blank end) hs (calls cs)) ds
 answered-append end hs [] ds k = (tt, k)
 answered-append end hs (refused-setup e list a ∷ cs) ds k = answered-append end hs cs ds k
 answered-append end hs (told j m a ∷ cs) ds k =
-    let rest = answered-append end (stepIn machine (blank end) hs (record { at = j; it = tell m })) cs ds (k .1) in
+    let rest = answered-append end (stepIn counting (blank end) hs (record { at = j; it = tell m })) cs ds (k .1) in
     ((k .0, rest .0), rest .1)
 answered-append end hs (settled j time a ∷ cs) ds k =
-    let rest = answered-append end (stepIn machine (blank end) hs (record { at = j; it = settle time })) cs ds (k .1) in
+    let rest = answered-append end (stepIn counting (blank end) hs (record { at = j; it = settle time })) cs ds (k .1) in
     ((k .0, rest .0), rest .1)
 answered-append end hs (was-read j a ∷ cs) ds k = let rest = answered-append end hs cs ds (k .1) in ((k .0, rest .0), rest .1)
 answered-append end hs (next-given j u ∷ cs) ds k = let rest = answered-append end hs cs ds (k .1) in ((k .0, rest .0), rest .1)
+answered-append end hs (totals-given j x ∷ cs) ds k = let rest = answered-append end hs cs ds (k .1) in ((k .0, rest .0), rest .1)
 
 -- ------------------------------------------------------------------ a call, with what the rules answer it
 
-abbrev answers : Call Message → Whole → MadeOne
+abbrev answers : Call Message → Counted → MadeOne
 answers (tell m) h = told-one m (tellAnswer m h)
 answers (settle time) h = settled-one time (settleAnswer time h)
 
-abbrev reply : Asked machine → MadeOne
+abbrev reply : Asked counting → MadeOne
 reply x = answers (x .call) (x .found)
 
-reply-number : (x : Asked machine) → numberMade (reply x) ≡ numberOf machine x
+reply-number : (x : Asked counting) → numberMade (reply x) ≡ numberOf counting x
 reply-number x = go (x .call) (x .found)
   where
-    go : (c : Call Message) (h : Whole) → numberMade (answers c h) ≡ number machine c h
-    go (tell m) h = demands .shows h .0 m .0
-    go (settle time) h = demands .shows h .1 time .0 .0
+    go : (c : Call Message) (h : Counted) → numberMade (answers c h) ≡ number counting c h
+    go (tell m) h = told-number m h
+    go (settle time) h = settled-number time h
 
-reply-call : (xs : List (Asked machine)) → called (map reply xs) ≡ machines.called machine xs
+reply-call : (xs : List (Asked counting)) → called (map reply xs) ≡ machines.called counting xs
 reply-call [] = refl
 reply-call (x ∷ xs) = rw (go (x .call) (x .found), reply-call xs)
   where
-    go : (c : Call Message) (h : Whole) → callMade (answers c h) ≡ c
+    go : (c : Call Message) (h : Counted) → callMade (answers c h) ≡ c
     go (tell m) h = refl
     go (settle time) h = refl
 
 -- the calls on a stock that there is were answered so
 module _ (end i : ℕ) where
-  abbrev replies : List Whole → Calls machine → List MadeOne
-  replies hs cs = map reply (of i (asked machine (blank end) hs cs))
+  abbrev replies : List Counted → Calls counting → List MadeOne
+  replies hs cs = map reply (of i (asked counting (blank end) hs cs))
 
-  one-made : (hs : List Whole) (c : On (Call Message)) (x : MadeOne) (made : List MadeOne) (cs : Calls machine)
-      → (i ≡ c .at → x ≡ answers (c .it) (stock machine (blank end) hs (c .at))) → made ≡ replies (stepIn machine (blank end) hs c) cs
+  one-made : (hs : List Counted) (c : On (Call Message)) (x : MadeOne) (made : List MadeOne) (cs : Calls counting)
+      → (i ≡ c .at → x ≡ answers (c .it) (stock counting (blank end) hs (c .at))) → made ≡ replies (stepIn counting (blank end) hs c) cs
       → (if eqb i (c .at) then x ∷ made else made) ≡ replies hs (c ∷ cs)
   unfolding of if_then_else_
   one-made hs c x made cs e k = go (eqb i (c .at)) refl
@@ -185,7 +190,7 @@ module _ (end i : ℕ) where
       go true q = rw (q, e (eqb-true i (c .at) q), k)
       go false q = rw (q, k)
 
-  made-are : (hs : List Whole) → 1 ≤ length hs → length hs ≤ 64 → i < length hs → (cs : List Made) → Answered end hs cs → madeOf i cs ≡ replies hs (calls cs)
+  made-are : (hs : List Counted) → 1 ≤ length hs → length hs ≤ 64 → i < length hs → (cs : List Made) → Answered end hs cs → madeOf i cs ≡ replies hs (calls cs)
   unfolding of
   made-are hs s f l [] k = refl
   made-are hs s f l (refused-setup e list a ∷ cs) k = made-are hs s f l cs k
@@ -194,26 +199,27 @@ module _ (end i : ℕ) where
       let long = step-length end hs c in
       one-made hs c (told-one m a) (madeOf i cs) (calls cs)
       (λ e. ap (told-one m) (k .0 ∙ demands .answers end hs (512 * length hs) (512 * length hs) j .0 m .0 ((s, (f, (refl, refl))), subst (λ n. n < length hs) e l)))
-      (made-are (stepIn machine (blank end) hs c) (omega (arith, s, long)) (omega (arith, f, long)) (omega (arith, l, long)) cs (k .1))
+      (made-are (stepIn counting (blank end) hs c) (omega (arith, s, long)) (omega (arith, f, long)) (omega (arith, l, long)) cs (k .1))
   made-are hs s f l (settled j time a ∷ cs) k =
       let c : On (Call Message) = record { at = j; it = settle time } in
       let long = step-length end hs c in
       one-made hs c (settled-one time a) (madeOf i cs) (calls cs)
       (λ e. ap (settled-one time) (k .0 ∙ demands .answers end hs (512 * length hs) (512 * length hs) j .1 time .0 ((s, (f, (refl, refl))), subst (λ n. n < length hs) e l)))
-      (made-are (stepIn machine (blank end) hs c) (omega (arith, s, long)) (omega (arith, f, long)) (omega (arith, l, long)) cs (k .1))
+      (made-are (stepIn counting (blank end) hs c) (omega (arith, s, long)) (omega (arith, f, long)) (omega (arith, l, long)) cs (k .1))
   made-are hs s f l (was-read j a ∷ cs) k = made-are hs s f l cs (k .1)
   made-are hs s f l (next-given j u ∷ cs) k = made-are hs s f l cs (k .1)
+  made-are hs s f l (totals-given j x ∷ cs) k = made-are hs s f l cs (k .1)
 
   -- in rows: those that were made, their journal, and what was called
-  module _ (hs : List Whole) (cs : List Made) (e : madeOf i cs ≡ replies hs (calls cs)) where
-    abbrev met : List (Asked machine)
-    met = of i (asked machine (blank end) hs (calls cs))
+  module _ (hs : List Counted) (cs : List Made) (e : madeOf i cs ≡ replies hs (calls cs)) where
+    abbrev met : List (Asked counting)
+    met = of i (asked counting (blank end) hs (calls cs))
 
-    journal-are : journalOf i cs ≡ map reply (journal (numberOf machine) met)
-    journal-are = ap (journal numberMade) e ∙ journal-map reply (numberOf machine) numberMade reply-number met
+    journal-are : journalOf i cs ≡ map reply (journal (numberOf counting) met)
+    journal-are = ap (journal numberMade) e ∙ journal-map reply (numberOf counting) numberMade reply-number met
 
-    called-are : called (journalOf i cs) ≡ machines.called machine (journal (numberOf machine) met)
-    called-are = ap called journal-are ∙ reply-call (journal (numberOf machine) met)
+    called-are : called (journalOf i cs) ≡ machines.called counting (journal (numberOf counting) met)
+    called-are = ap called journal-are ∙ reply-call (journal (numberOf counting) met)
 
 -- ------------------------------------------------------------------ a stock that was set up, and then called
 
@@ -221,8 +227,8 @@ module _ (𝓕 : Family) (d : Demand2 𝓕) (end : ℕ) (u : Setup) (i : ℕ) (c
   abbrev us : List Setup
   us = setupsOf (r .list)
 
-  abbrev left : List Whole
-  left = run machine (blank end) (book end us) (calls cs)
+  abbrev left : List Counted
+  left = run counting (blank end) (book end us) (calls cs)
 
   follows : Answered end (book end us) cs × (b ≡ layout left)
   follows = d .from-setup end (r .list) (r .before) (r .start) b (r .answer) cs (r .set-up) (r .accepted) (r .chain)
@@ -265,8 +271,8 @@ module _ (𝓕 : Family) (d : Demand2 𝓕) (end : ℕ) (u : Setup) (i : ℕ) (c
   abbrev vs : List Setup
   vs = setupsOf (r .list)
 
-  abbrev between : List Whole
-  between = run machine (blank end) (book end vs) (calls cs)
+  abbrev between : List Counted
+  between = run counting (blank end) (book end vs) (calls cs)
 
   parts : Answered end (book end vs) cs × Answered end between es
   parts = answered-append end (book end vs) cs es (follows 𝓕 d end u i (cs ++ es) b r .0)
@@ -286,10 +292,10 @@ module _ (𝓕 : Family) (d : Demand2 𝓕) (end : ℕ) (u : Setup) (i : ℕ) (c
   whole : journalOf i (cs ++ es) ≡ map reply (books.journalOf end vs (calls cs ++ calls es) i)
   whole =
       journal-are end i (book end vs) (cs ++ es) (made 𝓕 d end u i (cs ++ es) b r)
-      ∙ ap (λ (l : Calls machine). map reply (books.journalOf end vs l i)) (calls-append cs es)
+      ∙ ap (λ (l : Calls counting). map reply (books.journalOf end vs l i)) (calls-append cs es)
 
   whole-now : now end vs (calls (cs ++ es)) i ≡ now end vs (calls cs ++ calls es) i
-  whole-now = ap (λ (l : Calls machine). now end vs l i) (calls-append cs es)
+  whole-now = ap (λ (l : Calls counting). now end vs l i) (calls-append cs es)
 
   -- where the second part settles to a time until that is refused, so do the rules
   module _ (time : ℕ) (all : Every (λ x. callMade x ≡ settle time) (madeOf i es)) where
@@ -298,9 +304,9 @@ module _ (𝓕 : Family) (d : Demand2 𝓕) (end : ℕ) (u : Setup) (i : ℕ) (c
 
     refuses : Some (λ x. ¬ (numberMade x ≡ 0)) (madeOf i es) → ¬ (settles time (now end vs (calls cs ++ calls es) i) ≡ 0)
     refuses one =
-        subst (λ (l : List Whole). ¬ (settles time (stock machine (blank end) l i) ≡ 0)) (sym (run-append machine (blank end) (book end vs) (calls cs) (calls es)))
-        (refused-in machine (blank end) time between (calls es) i between-has settlings
-        (some-map reply (numberOf machine) numberMade reply-number (of i (asked machine (blank end) between (calls es))) (subst (Some (λ x. ¬ (numberMade x ≡ 0))) second-made one)))
+        subst (λ (l : List Counted). ¬ (settles time (stock counting (blank end) l i) ≡ 0)) (sym (run-append counting (blank end) (book end vs) (calls cs) (calls es)))
+        (refused-in counting (blank end) time between (calls es) i between-has settlings
+        (some-map reply (numberOf counting) numberMade reply-number (of i (asked counting (blank end) between (calls es))) (subst (Some (λ x. ¬ (numberMade x ≡ 0))) second-made one)))
 
 -- ------------------------------------------------------------------ two stocks that were set up alike
 
@@ -342,7 +348,7 @@ module _ (𝓕 : Family) (d : Demand2 𝓕) (end : ℕ) (u : Setup) (i j : ℕ) 
   alike = set-up-alike 𝓕 d end u i j (cs ++ es) (ds ++ fs) b c r q
 
   -- the first parts
-  calls-alike : machines.called machine (books.journalOf end vs₁ (calls cs) i) ≡ machines.called machine (books.journalOf end vs₂ (calls ds) j)
+  calls-alike : machines.called counting (books.journalOf end vs₁ (calls cs) i) ≡ machines.called counting (books.journalOf end vs₂ (calls ds) j)
   calls-alike =
       sym (called-are end i (book end vs₁) cs (first-made 𝓕 d end u i cs es b r)) ∙ k ∙ called-are end j (book end vs₂) ds (first-made 𝓕 d end u j ds fs c q)
 
@@ -361,7 +367,7 @@ module _ (𝓕 : Family) (d : Demand2 𝓕) (end : ℕ) (u : Setup) (i j : ℕ) 
   by-entries : (entries : List MadeOne) → IsJournal numberMade (madeOf i es) entries → called (madeOf j fs) ≡ called entries
       → (madeOf j fs ≡ entries) × SameStock i j (cs ++ es) (ds ++ fs) b c
   by-entries entries is e =
-      let xs = entries-map reply (numberOf machine) numberMade reply-number (askedOf end vs₁ (calls cs) (calls es) i) entries
+      let xs = entries-map reply (numberOf counting) numberMade reply-number (askedOf end vs₁ (calls cs) (calls es) i) entries
       (subst (λ l. IsJournal numberMade l entries) (second-made 𝓕 d end u i cs es b r) is) in
       let both = demands .replayed end vs₁ vs₂ (calls cs) (calls ds) (calls es) (calls fs) i j alike calls-alike (xs .0) (xs .1)
       (called-is j fs ∙ e ∙ ap called (xs .2) ∙ reply-call (xs .0)) in

@@ -10,8 +10,10 @@ use Rattle.forms.specs.Words.{Gives}
 use Rattle.forms.proofs.Checks.{hit, miss}
 use Rattle.forms.proofs.Choice.{if-true, if-false, eq-not, ne-not}
 use Rattle.forms.proofs.Decides.{one-number}
+use Rattle.rules.specs.Counted.{fresh}
 use Rattle.rules.specs.Book.{noSetup}
-use Rattle.rules.specs.Numbers.{fresh, setsUp, setupAnswer, zeros}
+use Rattle.rules.specs.Numbers as numbers
+use Rattle.rules.specs.Numbers.{setsUp, setupAnswer, zeros}
 use Rattle.rules.specs.declared.Answer.{Answer}
 use Rattle.rules.specs.declared.Setup.{Setup}
 use Rattle.stock.specs.View.{bytes, view}
@@ -86,7 +88,7 @@ record-of end us i h = within (map (recordOf end) us) i _ _ (rw (length-map us (
 
 -- a record with no trade, whatever stands in its places
 fresh-view : (end : ℕ) (u : Setup) (ts ps : List ℕ) → view (bytes (recordOf end u) ts ps) ≡ fresh end u
-unfolding fresh trades
+unfolding fresh numbers.fresh trades
 fresh-view end u ts ps = refl
 
 -- zeros, wherever one looks

@@ -1,4 +1,4 @@
--- The seven wrong books fail, each at a few calls on a book of one stock: the silent one demand 1, the others demand 2.
+-- The eight wrong books fail, each at a few calls on a book of one stock: the silent one demand 1, the others demand 2.
 -- Assumes nothing.
 use Prim.Native.Nat.{ℕ, _*_}
 use mathlib.Core.List.{List, [], _∷_, flatten}
@@ -8,26 +8,30 @@ use lib.ListN.{length, getD, replicate}
 use Rattle.forms.specs.Choice.{if_then_else_, allOf, anyOf}
 use Rattle.forms.specs.Checks.{first}
 use Rattle.band.specs.Band.{percentOf, factorOf, spreadOf, cent, lowerOf, upperOf, bandsOf}
-use Rattle.rules.specs.Stock.{Whole, total, oldest, figuresOf}
+use Rattle.rules.specs.Stock.{total, oldest, figuresOf}
 use Rattle.rules.specs.Quotes.{inForce, kTime, bandsIn, higher, lesser, bestBid, bestOffer, bidFlag, offerFlag, bestOf, flagged, crossed}
 use Rattle.rules.specs.States.{look, begin-trading}
 use Rattle.rules.specs.Moments.{momentTable, sooner, earliest, next, dueBy, pastAt}
 use Rattle.rules.specs.Messages.{taken, quoteRules, does, after}
-use Rattle.rules.specs.Numbers.{notPrice, badEnd, badSetup, badTimes, orNotSide, badQuotes, notReference, badReference, badTrade, see, badTrades, badStock, rubbish, outOfRange, notPrimary, ownChecks, messageChecks, checks, tells, readChecks, reads, answer, readAnswer, nextAnswer, fresh, orBadSetup, badShape, callChecks, setupChecks, zeros}
+use Rattle.rules.specs.Numbers.{notPrice, badEnd, badSetup, badTimes, orNotSide, badQuotes, notReference, badReference, badTrade, see, badTrades, badStock, rubbish, outOfRange, notPrimary, ownChecks, messageChecks, checks, tells, readChecks, reads, answer, fresh, orBadSetup, badShape, callChecks, setupChecks, zeros}
+use Rattle.rules.specs.Totals.{wrongTotals, brought, longer, oneMore, beginsLimit, inPause, beginsPause, highestWith, lowestWith}
+use Rattle.rules.specs.Counted as counted
+use Rattle.rules.specs.Counted.{Counted}
 use Rattle.rules.specs.Machine.{tell, numberIn, stepIn, run}
-use Rattle.rules.specs.Book.{machine, blank, book, bookReads, bookNext}
+use Rattle.rules.specs.Book.{counting, blank, book, bookReads, bookNext, bookTotals}
 use Rattle.rules.specs.declared.Message.{Message}
 use Rattle.rules.specs.declared.Message.the-variants.{Quote, Opening}
 use Rattle.window.specs.Places.{laid}
 use Rattle.rules.specs.declared.Answer.{Answer}
 use Rattle.rules.specs.declared.Notice.{Notice}
+use Rattle.rules.specs.declared.Summary.{Summary}
 use Rattle.rules.specs.declared.Upcoming.{Upcoming}
 use Rattle.stock.specs.View.{telling}
 use Rattle.calls.specs.Setup.{setupsOf, setupNumber}
-use Rattle.book.specs.Lent.{Lent, lent, noRecord, calling, readingIn, comingIn}
+use Rattle.book.specs.Lent.{Lent, lent, noRecord, calling, readingIn, comingIn, totallingIn}
 use Rattle.book.specs.Layout.{layout}
 use Rattle.book.specs.Setup.{numberOf, setting, SetsUp}
-use Rattle.book.specs.Demands.{Made, told, was-read, next-given, calls, Demand1, Demand2, silent, refusing, fixed, leaving, acknowledging, blind, unaware}
+use Rattle.book.specs.Demands.{Made, told, was-read, next-given, totals-given, calls, Demand1, Demand2, silent, refusing, fixed, leaving, acknowledging, blind, unaware, uncounting}
 use Rattle.book.proofs.Chains.{demand2}
 use Rattle.book.proofs.SettingUp.{same-number}
 
@@ -58,8 +62,8 @@ silent-fails d = d .setup-answered end one used .2
 pub refusing-fails : Demand2 refusing → ⊥
 refusing-fails d = let n = same-number end one used 1 (d .setup-number end one used used (zeros 1) (refl, refl)) in omega (arith, n, accepted)
 
-pub fixed-fails : (x : Answer) (y : Notice) (u : Upcoming) → Demand2 (fixed x y u) → ⊥
-fixed-fails x y u d =
+pub fixed-fails : (x : Answer) (y : Notice) (u : Upcoming) (s : Summary) → Demand2 (fixed x y u s) → ⊥
+fixed-fails x y u s d =
     let n = same-number end one used (x .number) (d .setup-number end one used used x refl) in
     let m = same-number 0 one used (x .number) (d .setup-number 0 one used used x refl) in
     omega (arith, n, m, accepted, not-accepted)
@@ -70,7 +74,7 @@ unfolding setting setupNumber setupChecks badShape badEnd badSetup orBadSetup no
 set-up = refl
 
 pub leaving-fails : Demand2 leaving → ⊥
-unfolding flatten laid fresh setupsOf
+unfolding flatten laid fresh counted.fresh setupsOf
 leaving-fails d =
     let same = d .from-setup end one used used used (zeros 0) [] (sym set-up, refl) refl refl .1 in
     let z : _≡_ {A = ℕ} 1 0 = ap (λ (b : Lent). getD (b .times) 0 0) same in
@@ -81,12 +85,12 @@ abbrev quoted : List Made
 quoted = told 0 (Quote 1 0 0 0) (zeros 0) ∷ []
 
 -- it moves the clock
-moves : getD (layout (run machine (blank end) (book end (setupsOf one)) (calls quoted)) .records) 0 noRecord .stock .course .clock ≡ 1
-unfolding if_then_else_ allOf anyOf first total oldest figuresOf inForce kTime bandsIn look momentTable sooner earliest next dueBy pastAt taken quoteRules does after notPrice badEnd badSetup badTimes orNotSide badQuotes notReference badReference badTrade see badTrades badStock rubbish outOfRange notPrimary ownChecks messageChecks checks tells fresh numberIn stepIn setupsOf
+moves : getD (layout (run counting (blank end) (book end (setupsOf one)) (calls quoted)) .records) 0 noRecord .stock .course .clock ≡ 1
+unfolding if_then_else_ allOf anyOf first total oldest figuresOf inForce kTime bandsIn look momentTable sooner earliest next dueBy pastAt taken quoteRules does after notPrice badEnd badSetup badTimes orNotSide badQuotes notReference badReference badTrade see badTrades badStock rubbish outOfRange notPrimary ownChecks messageChecks checks tells fresh numberIn stepIn setupsOf counted.fresh counted.orWrong counted.after wrongTotals brought longer oneMore beginsLimit inPause beginsPause highestWith lowestWith
 moves = refl
 
 pub acknowledging-fails : Demand2 acknowledging → ⊥
-unfolding fresh setupsOf
+unfolding fresh counted.fresh setupsOf
 acknowledging-fails d =
     let b = setting end one used .book in
     let before = d .from-setup end one used b b (zeros 0) [] (ap (λ a. record { answer = a; book = b }) (sym set-up)) refl refl .1 in
@@ -95,32 +99,36 @@ acknowledging-fails d =
     let z : _≡_ {A = ℕ} 0 1 = ap clock (sym before ∙ later) ∙ moves in
     omega (arith, z)
 
--- ------------------------------------------------------------------ what reading and asking what comes next tell
+-- ------------------------------------------------------------------ what reading, what comes next and the totals tell
 
 -- the primary opens the stock
 abbrev opens : Message
 opens = Opening 1 0 10_000
 
 -- the stock as the rules have it, fresh and opened
-abbrev new : List Whole
+abbrev new : List Counted
 new = book end (setupsOf one)
 
-abbrev opened : List Whole
-opened = stepIn machine (blank end) new (record { at = 0; it = tell opens })
+abbrev opened : List Counted
+opened = stepIn counting (blank end) new (record { at = 0; it = tell opens })
 
 -- what the rules answer
-abbrev reads-in : List Whole → Answer
+abbrev reads-in : List Counted → Answer
 reads-in hs = bookReads end hs (512 * length hs) (512 * length hs) 0
 
-abbrev comes-in : List Whole → Upcoming
+abbrev comes-in : List Counted → Upcoming
 comes-in hs = bookNext end hs (512 * length hs) (512 * length hs) 0
 
--- they answer 0 to both, but do not tell the same: the state is 0 and then 1, and next comes f and then h
+abbrev totals-in : List Counted → Summary
+totals-in hs = bookTotals end hs (512 * length hs) (512 * length hs) 0
+
+-- they answer 0 to all, but do not tell the same: the state is 0 and then 1, next comes f and then h, and the time in Waiting is 0 and then 1
 tells-apart :
     (reads-in new .number ≡ 0) × (reads-in opened .number ≡ 0) × (reads-in new .state ≡ 0) × (reads-in opened .state ≡ 1)
     × (comes-in new .number ≡ 0) × (comes-in opened .number ≡ 0) × (comes-in new .time ≡ 300_000) × (comes-in opened .time ≡ 30_001)
-unfolding if_then_else_ allOf anyOf first percentOf factorOf spreadOf cent lowerOf upperOf bandsOf total oldest figuresOf inForce kTime bandsIn higher lesser bestBid bestOffer bidFlag offerFlag bestOf flagged crossed look begin-trading momentTable sooner earliest next dueBy pastAt taken does after notPrice badEnd badSetup badTimes orNotSide badQuotes notReference badReference badTrade see badTrades badStock rubbish outOfRange notPrimary ownChecks messageChecks checks tells readChecks reads answer readAnswer nextAnswer fresh badShape callChecks numberIn stepIn bookReads bookNext setupsOf
-tells-apart = (refl, refl, refl, refl, refl, refl, refl, refl)
+    × (totals-in new .number ≡ 0) × (totals-in opened .number ≡ 0) × (totals-in new .totals .spent .waiting ≡ 0) × (totals-in opened .totals .spent .waiting ≡ 1)
+unfolding if_then_else_ allOf anyOf first percentOf factorOf spreadOf cent lowerOf upperOf bandsOf total oldest figuresOf inForce kTime bandsIn higher lesser bestBid bestOffer bidFlag offerFlag bestOf flagged crossed look begin-trading momentTable sooner earliest next dueBy pastAt taken does after notPrice badEnd badSetup badTimes orNotSide badQuotes notReference badReference badTrade see badTrades badStock rubbish outOfRange notPrimary ownChecks messageChecks checks tells readChecks reads answer fresh badShape callChecks numberIn stepIn bookReads bookNext bookTotals setupsOf counted.fresh counted.orWrong counted.after wrongTotals brought longer oneMore beginsLimit inPause beginsPause highestWith lowestWith counted.readAnswer counted.nextAnswer counted.totalsAnswer
+tells-apart = (refl, refl, refl, refl, refl, refl, refl, refl, refl, refl, refl, refl)
 
 -- the bytes of both
 abbrev fresh-book : Lent
@@ -161,4 +169,17 @@ unaware-fails u d =
     let same : comingIn 0 fresh-book .number ≡ comingIn 0 opened-book .number =
     ap (λ a. a .number) (r .0) ∙ tells-apart .4 ∙ sym (ap (λ a. a .number) (r .1 .1 .0) ∙ tells-apart .5) in
     let z : _≡_ {A = ℕ} 300_000 30_001 = sym (tells-apart .6) ∙ ap (λ a. a .time) (sym (k .0) ∙ ap u same ∙ k .1 .1 .0) ∙ tells-apart .7 in
+    omega (arith, z)
+
+pub uncounting-fails : (s : ℕ → Summary) → Demand2 (uncounting s) → ⊥
+unfolding setupsOf
+uncounting-fails s d =
+    let r = demand2 .from-setup end one used fresh-book opened-book (zeros 0) (again (totals-given 0 (totallingIn 0 fresh-book)) (totals-given 0 (totallingIn 0 opened-book)))
+    started refl (refl, (opened-book, refl, (refl, refl))) .0 in
+    let k = d .from-setup end one used fresh-book opened-book (zeros 0)
+    (again (totals-given 0 (s (totallingIn 0 fresh-book .number))) (totals-given 0 (s (totallingIn 0 opened-book .number))))
+    started refl (refl, (opened-book, refl, (refl, refl))) .0 in
+    let same : totallingIn 0 fresh-book .number ≡ totallingIn 0 opened-book .number =
+    ap (λ a. a .number) (r .0) ∙ tells-apart .8 ∙ sym (ap (λ a. a .number) (r .1 .1 .0) ∙ tells-apart .9) in
+    let z : _≡_ {A = ℕ} 0 1 = sym (tells-apart .10) ∙ ap (λ a. a .totals .spent .waiting) (sym (k .0) ∙ ap s same ∙ k .1 .1 .0) ∙ tells-apart .11 in
     omega (arith, z)

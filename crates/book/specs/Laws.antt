@@ -8,18 +8,19 @@ use mathlib.Core.Path.{_≡_}
 use lib.ListN.{length}
 use Rattle.forms.specs.Promises.{Determines}
 use Rattle.forms.specs.Words.{_and_}
-use Rattle.rules.specs.Stock.{Whole}
 use Rattle.rules.specs.Machine.{Every}
-use Rattle.rules.specs.Numbers.{zeros, noNotice, fresh, afterTelling, afterSettling, tellAnswer, settleAnswer, readAnswer, noneComing, nextAnswer, setupAnswer}
+use Rattle.rules.specs.Numbers.{zeros, noNotice, noneComing, setupAnswer}
+use Rattle.rules.specs.Counted.{Counted, fresh, afterTelling, afterSettling, tellAnswer, settleAnswer, readAnswer, nextAnswer, noSummary, totalsAnswer}
 use Rattle.rules.specs.declared.Answer.{Answer}
 use Rattle.rules.specs.declared.Message.{Message}
 use Rattle.rules.specs.declared.Notice.{Notice}
+use Rattle.rules.specs.declared.Summary.{Summary}
 use Rattle.rules.specs.declared.Upcoming.{Upcoming}
 use Rattle.stock.specs.View.{Bytes, view, shaped, Outcome, telling, settling}
 use Rattle.stock.specs.declared.Record.{Record}
 use Rattle.calls.specs.Setup.{setupsOf}
 use Rattle.calls.specs.Words.{setupIn}
-use Rattle.book.specs.Lent.{Lent, lent, bytesOf, withBytes, Given, callNumber, calling, TellsIn, SettlesIn, readingIn, comingIn}
+use Rattle.book.specs.Lent.{Lent, lent, bytesOf, withBytes, Given, callNumber, calling, TellsIn, SettlesIn, readingIn, comingIn, totallingIn}
 use Rattle.book.specs.Words.{Means, UnusedAre0, LaidOut, InShape}
 use Rattle.book.specs.Setup.{SetsUp}
 use Rattle.book.specs.Layout.{layout}
@@ -52,11 +53,11 @@ BytesOfOthers = (i : ℕ) (x : Bytes) (b : Lent) → shaped x ≡ true → Has i
 
 -- the bytes of a stock mean exactly one stock: the one that is read from them
 abbrev pub OneMeaning : Type 0
-OneMeaning = (i : ℕ) (b : Lent) (h : Whole) → Means i b h ↔ (h ≡ view (bytesOf i b))
+OneMeaning = (i : ℕ) (b : Lent) (h : Counted) → Means i b h ↔ (h ≡ view (bytesOf i b))
 
 -- the layout of a book whose windows fit, entry by entry
 abbrev pub LayoutIs : Type 0
-LayoutIs = (hs : List Whole) → Every (λ h. length (h .window) ≤ 512) hs → LaidOut hs (layout hs)
+LayoutIs = (hs : List Counted) → Every (λ h. length (h .whole .window) ≤ 512) hs → LaidOut hs (layout hs)
 
 -- ------------------------------------------------------------------ calls on any bytes
 
@@ -68,18 +69,21 @@ pub record AnsweredBy {A : Type 0} (i : ℕ) (b : Lent) (r own : A) (beside : �
 
 -- the answer is the rules' answer for the stock that the bytes mean, and the new bytes mean the stock that the rules leave
 abbrev pub ToldByTheRules : Type 0
-ToldByTheRules = (i : ℕ) (m : Message) (b : Lent) (r : Answer) (b′ : Lent) (h : Whole) → TellsIn i m b r b′ → Means i b h
+ToldByTheRules = (i : ℕ) (m : Message) (b : Lent) (r : Answer) (b′ : Lent) (h : Counted) → TellsIn i m b r b′ → Means i b h
     → AnsweredBy i b r (tellAnswer m h) zeros × (InShape b → i < length (b .records) → Means i b′ (afterTelling m h))
 
 abbrev pub SettledByTheRules : Type 0
-SettledByTheRules = (i time : ℕ) (b : Lent) (r : Notice) (b′ : Lent) (h : Whole) → SettlesIn i time b r b′ → Means i b h
+SettledByTheRules = (i time : ℕ) (b : Lent) (r : Notice) (b′ : Lent) (h : Counted) → SettlesIn i time b r b′ → Means i b h
     → AnsweredBy i b r (settleAnswer time h) noNotice × (InShape b → i < length (b .records) → Means i b′ (afterSettling time h))
 
 abbrev pub ReadByTheRules : Type 0
-ReadByTheRules = (i : ℕ) (b : Lent) (h : Whole) → Means i b h → AnsweredBy i b (readingIn i b) (readAnswer h) zeros
+ReadByTheRules = (i : ℕ) (b : Lent) (h : Counted) → Means i b h → AnsweredBy i b (readingIn i b) (readAnswer h) zeros
 
 abbrev pub NextByTheRules : Type 0
-NextByTheRules = (i : ℕ) (b : Lent) (h : Whole) → Means i b h → AnsweredBy i b (comingIn i b) (nextAnswer h) noneComing
+NextByTheRules = (i : ℕ) (b : Lent) (h : Counted) → Means i b h → AnsweredBy i b (comingIn i b) (nextAnswer h) noneComing
+
+abbrev pub TotalsByTheRules : Type 0
+TotalsByTheRules = (i : ℕ) (b : Lent) (h : Counted) → Means i b h → AnsweredBy i b (totallingIn i b) (totalsAnswer h) noSummary
 
 -- a step that does not change its stock's bytes does not change the book
 abbrev pub CallLeaves : Type 1
@@ -144,6 +148,7 @@ pub record Laws : Type 1 where
   pub settled-by-the-rules : SettledByTheRules
   pub read-by-the-rules : ReadByTheRules
   pub next-by-the-rules : NextByTheRules
+  pub totals-by-the-rules : TotalsByTheRules
   pub call-leaves : CallLeaves
   pub told-refused : ToldRefused
   pub settled-refused : SettledRefused
@@ -158,4 +163,5 @@ pub record Laws : Type 1 where
   pub settle-determined : (i time : ℕ) (b : Lent) → Determines (λ (x : Given Notice). SettlesIn i time b (x .answer) (x .book))
   pub read-determined : (i : ℕ) (b : Lent) → Determines (λ (r : Answer). r ≡ readingIn i b)
   pub next-determined : (i : ℕ) (b : Lent) → Determines (λ (u : Upcoming). u ≡ comingIn i b)
+  pub totals-determined : (i : ℕ) (b : Lent) → Determines (λ (x : Summary). x ≡ totallingIn i b)
   pub setup-determined : (end : ℕ) (list : List ℕ) (b : Lent) → Determines (λ (x : Given Answer). SetsUp end list b (x .answer) (x .book))

@@ -8,12 +8,14 @@ use lib.ListN.{length, getD, set}
 use Rattle.forms.specs.Choice.{if_then_else_}
 use Rattle.forms.specs.Checks.{first}
 use Rattle.rules.specs.Numbers.{callChecks, zeros, noneComing, noNotice}
+use Rattle.rules.specs.Counted.{noSummary}
 use Rattle.rules.specs.Book.{blank}
 use Rattle.rules.specs.declared.Answer.{Answer}
 use Rattle.rules.specs.declared.Message.{Message}
 use Rattle.rules.specs.declared.Notice.{Notice}
+use Rattle.rules.specs.declared.Summary.{Summary}
 use Rattle.rules.specs.declared.Upcoming.{Upcoming}
-use Rattle.stock.specs.View.{Bytes, bytes, Outcome, telling, settling, reading, coming}
+use Rattle.stock.specs.View.{Bytes, bytes, Outcome, telling, settling, reading, coming, totalling}
 use Rattle.stock.specs.declared.Record.{Record}
 use Rattle.calls.specs.Parts.{part, put}
 
@@ -30,7 +32,7 @@ lent records times prices = record { records = records; times = times; prices = 
 
 -- the record that is read past the end of the records; no accepted call reads it
 abbrev pub noRecord : Record
-noRecord = record { stock = blank 0 .stock; count = 0 }
+noRecord = record { stock = blank 0 .whole .stock; count = 0; totals = blank 0 .totals }
 
 -- the bytes of stock i
 abbrev pub bytesOf : ℕ → Lent → Bytes
@@ -76,3 +78,7 @@ readingIn i b = asking i reading zeros b
 -- the answer to asking what comes next of stock i
 abbrev pub comingIn : ℕ → Lent → Upcoming
 comingIn i b = asking i coming noneComing b
+
+-- the answer to asking for the day totals of stock i
+abbrev pub totallingIn : ℕ → Lent → Summary
+totallingIn i b = asking i totalling noSummary b

@@ -7,7 +7,8 @@ use mathlib.Core.List.{List}
 use mathlib.Core.Path.{_≡_}
 use lib.ListN.{length, getD}
 use Rattle.forms.specs.Words.{_and_, Number}
-use Rattle.rules.specs.Stock.{Trade, Whole}
+use Rattle.rules.specs.Stock.{Trade}
+use Rattle.rules.specs.Counted.{Counted}
 use Rattle.rules.specs.Book.{blank}
 use Rattle.rules.specs.Words.{IsShape, bookRefusals}
 use Rattle.stock.specs.declared.Record.{Record}
@@ -28,20 +29,21 @@ InPlace i j b time price = time ≡ getD (b .times) (512 * i + j) 0 and price �
 abbrev pub noTrade : Trade
 noTrade = record { at = 0; price = 0 }
 
--- the bytes of stock i mean h: the record has the stock, and counts the trades of the window; trade j, from the oldest on, is in place j. A
--- stock has 512 places: a trade that is counted beyond them reads 0, and the stock is rubbish
-pub record Means (i : ℕ) (b : Lent) (h : Whole) : Type 0 where
-  pub stock : h .stock ≡ recordAt i b .stock
-  pub count : length (h .window) ≡ recordAt i b .count
-  pub held : (j : ℕ) → j < length (h .window) → j < 512 → let t = getD (h .window) j noTrade in InPlace i j b (t .at) (t .price)
-  pub beyond : (j : ℕ) → j < length (h .window) → 512 ≤ j → getD (h .window) j noTrade ≡ noTrade
+-- the bytes of stock i mean h: the record has the stock and its totals, and counts the trades of the window; trade j, from the oldest on, is in
+-- place j. A stock has 512 places: a trade that is counted beyond them reads 0, and the stock is rubbish
+pub record Means (i : ℕ) (b : Lent) (h : Counted) : Type 0 where
+  pub stock : h .whole .stock ≡ recordAt i b .stock
+  pub totals : h .totals ≡ recordAt i b .totals
+  pub count : length (h .whole .window) ≡ recordAt i b .count
+  pub held : (j : ℕ) → j < length (h .whole .window) → j < 512 → let t = getD (h .whole .window) j noTrade in InPlace i j b (t .at) (t .price)
+  pub beyond : (j : ℕ) → j < length (h .whole .window) → 512 ≤ j → getD (h .whole .window) j noTrade ≡ noTrade
 
 -- a place behind the held trades of stock i is 0
 abbrev pub UnusedAre0 : ℕ → Lent → Type 0
 UnusedAre0 i b = (j : ℕ) → recordAt i b .count ≤ j → j < 512 → InPlace i j b 0 0
 
 -- the bytes are those of a book that was set up: 512 places of each array for each stock, of which those in use mean the stock
-pub record LaidOut (hs : List Whole) (b : Lent) : Type 0 where
+pub record LaidOut (hs : List Counted) (b : Lent) : Type 0 where
   pub stocks : length (b .records) ≡ length hs
   pub times : length (b .times) ≡ 512 * length hs
   pub prices : length (b .prices) ≡ 512 * length hs

@@ -3,12 +3,13 @@
 // public function has a `requires`: for any bytes the promise gives the answer and every byte that the call leaves.
 ghost use mathlib.Core.Path.{_≡_};
 ghost use Rattle.stock.specs.View.{bytes, Tells, Settles};
-ghost use Rattle.book.specs.Lent.{lent, TellsIn, SettlesIn, readingIn, comingIn};
+ghost use Rattle.book.specs.Lent.{lent, TellsIn, SettlesIn, readingIn, comingIn, totallingIn};
 ghost use Rattle.book.specs.Setup.{SetsUp};
 use rules::Answer;
 use rules::DONE;
 use rules::Message;
 use rules::Notice;
+use rules::Summary;
 use rules::Upcoming;
 use stock::Record;
 
@@ -123,4 +124,16 @@ pub fn next(book: &[Record], times: &[u32], prices: &[u32], stock: u32) -> Upcom
         return stock::none_coming(number);
     }
     calls::next_at(book[i], times, prices, stock)
+}
+
+// Gives the day totals of a stock of the lent book, and changes nothing.
+pub fn totals(book: &[Record], times: &[u32], prices: &[u32], stock: u32) -> Summary
+    ensures { λ x. ⌜ x ≡ totallingIn stock (lent (now (book .entry)) (now (times .entry)) (now (prices .entry))) ⌝ }
+{
+    let i = stock as usize;
+    let number = calls::call_number(book.len(), times.len(), prices.len(), i);
+    if number != DONE {
+        return stock::no_summary(number);
+    }
+    calls::totals_at(book[i], times, prices, stock)
 }

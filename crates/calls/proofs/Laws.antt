@@ -8,7 +8,7 @@ use Rattle.forms.specs.Checks.{first}
 use Rattle.forms.proofs.Promises.{agree}
 use Rattle.rules.specs.Book.{noSetup}
 use Rattle.rules.specs.Numbers.{callChecks, zeros}
-use Rattle.stock.specs.View.{bytes, Outcome, reading, coming}
+use Rattle.stock.specs.View.{bytes, Outcome, reading, coming, totalling}
 use Rattle.stock.specs.declared.Record.{Record}
 use Rattle.calls.specs.Parts.{part, Placed}
 use Rattle.calls.specs.Setup.{setupsOf, recordOf, setupNumber}
@@ -31,6 +31,7 @@ laws = record {
   settled-at-determined = λ i time r ts ps x y p q. rw (p .answer ∙ sym (q .answer), p .next ∙ sym (q .next), p .times ∙ sym (q .times), p .prices ∙ sym (q .prices));
   read-at-determined = λ i r ts ps. agree (reading (bytes r (part i ts) (part i ps)));
   next-at-determined = λ i r ts ps. agree (coming (bytes r (part i ts) (part i ps)));
+  totals-at-determined = λ i r ts ps. agree (totalling (bytes r (part i ts) (part i ps)));
   setup-answer-determined = λ stocks times prices end list. agree (zeros (setupNumber stocks times prices end list));
   started-at-determined = λ list end i. agree (recordOf end (getD (setupsOf list) i noSetup));
 }

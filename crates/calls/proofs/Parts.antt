@@ -15,11 +15,13 @@ use Rattle.forms.specs.Choice.{anyOf}
 use Rattle.forms.proofs.Bools.{or-any}
 use Rattle.forms.proofs.Choice.{if-false, any-head, any-tail}
 use Rattle.rules.specs.Numbers.{zeros, noneComing, noNotice}
+use Rattle.rules.specs.Counted.{noSummary}
 use Rattle.rules.specs.declared.Answer.{Answer}
 use Rattle.rules.specs.declared.Message.{Message}
 use Rattle.rules.specs.declared.Notice.{Notice}
+use Rattle.rules.specs.declared.Summary.{Summary}
 use Rattle.rules.specs.declared.Upcoming.{Upcoming}
-use Rattle.stock.specs.View.{Bytes, bytes, shaped, Outcome, telling, settling, reading, coming, Tells, Settles}
+use Rattle.stock.specs.View.{Bytes, bytes, shaped, Outcome, telling, settling, reading, coming, totalling, Tells, Settles}
 use Rattle.stock.proofs.Laws as stock
 use Rattle.stock.specs.declared.Record.{Record}
 use Rattle.stock.specs.declared.Told.{Told}
@@ -115,6 +117,9 @@ module _ (i s : ℕ) (start : s ≡ 512 * i) where
   pub next-of-part : (r : Record) (ts ps : List ℕ) (u : Upcoming) → u ≡ coming (bytes r (lent-part s ts) (lent-part s ps)) → u ≡ coming (bytes r (part i ts) (part i ps))
   next-of-part = of-part coming
 
+  pub totals-of-part : (r : Record) (ts ps : List ℕ) (x : Summary) → x ≡ totalling (bytes r (lent-part s ts) (lent-part s ps)) → x ≡ totalling (bytes r (part i ts) (part i ps))
+  totals-of-part = of-part totalling
+
   module _ (r : Record) (ts ps us qs : List ℕ) where
     pub told-placed : (m : Message) (x : Told) → Tells m (bytes r (lent-part s ts) (lent-part s ps)) x us qs
         → ToldAt i m r ts ps x (part-back s ts us) (part-back s ps qs)
@@ -184,3 +189,6 @@ module _ (i : ℕ) (r : Record) (ts ps : List ℕ) (short : Bool) (of : Short i 
 
   pub none-next : (u : Upcoming) → u ≡ noneComing 1 → u ≡ coming own
   none-next u e = e ∙ sym (stock.laws .next-by-the-rules own .1 unshaped)
+
+  pub no-totals : (x : Summary) → x ≡ noSummary 1 → x ≡ totalling own
+  no-totals x e = e ∙ sym (stock.laws .totals-by-the-rules own .1 unshaped)

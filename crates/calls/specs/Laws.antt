@@ -11,8 +11,9 @@ use Rattle.rules.specs.Book.{noSetup}
 use Rattle.rules.specs.Numbers.{callChecks, zeros}
 use Rattle.rules.specs.declared.Answer.{Answer}
 use Rattle.rules.specs.declared.Message.{Message}
+use Rattle.rules.specs.declared.Summary.{Summary}
 use Rattle.rules.specs.declared.Upcoming.{Upcoming}
-use Rattle.stock.specs.View.{bytes, reading, coming}
+use Rattle.stock.specs.View.{bytes, reading, coming, totalling}
 use Rattle.stock.specs.Laws.{Left}
 use Rattle.stock.specs.declared.Record.{Record}
 use Rattle.stock.specs.declared.Told.{Told}
@@ -66,5 +67,6 @@ pub record Laws : Type 0 where
   pub settled-at-determined : (i time : ℕ) (r : Record) (ts ps : List ℕ) → Determines (λ (x : Left Settled). SettledAt i time r ts ps (x .result) (x .times) (x .prices))
   pub read-at-determined : (i : ℕ) (r : Record) (ts ps : List ℕ) → Determines (λ (x : Answer). x ≡ reading (bytes r (part i ts) (part i ps)))
   pub next-at-determined : (i : ℕ) (r : Record) (ts ps : List ℕ) → Determines (λ (x : Upcoming). x ≡ coming (bytes r (part i ts) (part i ps)))
+  pub totals-at-determined : (i : ℕ) (r : Record) (ts ps : List ℕ) → Determines (λ (x : Summary). x ≡ totalling (bytes r (part i ts) (part i ps)))
   pub setup-answer-determined : (stocks times prices end : ℕ) (list : List ℕ) → Determines (λ (r : Answer). r ≡ zeros (setupNumber stocks times prices end list))
   pub started-at-determined : (list : List ℕ) (end i : ℕ) → Determines (λ (r : Record). r ≡ recordOf end (getD (setupsOf list) i noSetup))

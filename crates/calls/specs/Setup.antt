@@ -9,6 +9,7 @@ use lib.ListN.{length}
 use Rattle.forms.specs.Checks.{first}
 use Rattle.forms.specs.Checks.Check.{_when_}
 use Rattle.rules.specs.Numbers.{fresh, setupChecks}
+use Rattle.rules.specs.Totals.{noTotals}
 use Rattle.rules.specs.declared.Setup.{Setup}
 use Rattle.stock.specs.declared.Record.{Record}
 
@@ -21,9 +22,9 @@ setupsOf (_ ∷ []) = []
 setupsOf (_ ∷ _ ∷ []) = []
 setupsOf (_ ∷ _ ∷ _ ∷ []) = []
 
--- the record of a stock that has been set up and holds no trade
+-- the record of a stock that has been set up: it holds no trade, and every total is 0
 abbrev pub recordOf : ℕ → Setup → Record
-recordOf end u = record { stock = fresh end u .stock; count = 0 }
+recordOf end u = record { stock = fresh end u .stock; count = 0; totals = noTotals }
 
 -- the number of a setup: 1 where the list's length is no multiple of four, else what the rules give
 unfoldable pub setupNumber : ℕ → ℕ → ℕ → ℕ → List ℕ → ℕ

@@ -6,7 +6,7 @@ ghost use lib.ListN.{getD};
 ghost use Rattle.forms.specs.Checks.{first};
 ghost use Rattle.rules.specs.Book.{noSetup};
 ghost use Rattle.rules.specs.Numbers.{callChecks, zeros};
-ghost use Rattle.stock.specs.View.{bytes, reading, coming};
+ghost use Rattle.stock.specs.View.{bytes, reading, coming, totalling};
 ghost use Rattle.calls.specs.Parts.{part, ToldAt, SettledAt};
 ghost use Rattle.calls.specs.Setup.{setupsOf, recordOf, setupNumber};
 use rules::Answer;
@@ -15,6 +15,7 @@ use rules::Message;
 use rules::NO_STOCK;
 use rules::PLACES;
 use rules::RUBBISH;
+use rules::Summary;
 use rules::Upcoming;
 use stock::Record;
 use stock::Settled;
@@ -98,6 +99,18 @@ pub fn next_at(r: Record, times: &[u32], prices: &[u32], stock: u32) -> Upcoming
     let from = shape::start_of(stock);
     let to = from + PLACES;
     r.next(&times[from..to], &prices[from..to])
+}
+
+// Gives one stock's day totals; gives 1 with every total 0 where an array is too short for its 512 places.
+pub fn totals_at(r: Record, times: &[u32], prices: &[u32], stock: u32) -> Summary
+    ensures { λ x. ⌜ x ≡ totalling (bytes r (part stock (now (times .entry))) (part stock (now (prices .entry)))) ⌝ }
+{
+    if shape::is_short(times.len(), prices.len(), stock) {
+        return stock::no_summary(RUBBISH);
+    }
+    let from = shape::start_of(stock);
+    let to = from + PLACES;
+    r.summary(&times[from..to], &prices[from..to])
 }
 
 // The answer of a setup; number 0 means that the caller is to carry it out.

@@ -83,7 +83,7 @@ pub(crate) fn number_of(stocks: usize, times: usize, prices: usize, end: u32, li
     DONE
 }
 
-// The record of a stock that is set up and holds no trade.
+// The record of a stock that is set up: it holds no trade, and every total is 0.
 pub(crate) fn started(setup: Setup, end: u32) -> Record
     ensures { λ r. ⌜ r ≡ recordOf end setup ⌝ }
 {
@@ -111,5 +111,11 @@ pub(crate) fn started(setup: Setup, end: u32) -> Record
         reference,
         quotes,
     };
-    Record { stock, count: 0 }
+    let none = stock::no_summary(DONE);
+    let totals = none.totals;
+    Record {
+        stock,
+        count: 0,
+        totals,
+    }
 }

@@ -6,31 +6,37 @@ use mathlib.Core.List.{List, [], _∷_}
 use mathlib.Core.Logic.{_⊎_, inl, inr, ⊎-elim}
 use mathlib.Core.Path.{_≡_, refl, sym, ap, _∙_, subst}
 use native.Mathlib.Omega.{arith}
-use borrow.Author.Tests.{eq-eqb, ne-eqb}
+use borrow.Author.Tests.{eq-eqb, ne-eqb, eqb-true}
 use lib.Dec.{ltb, leb, eqb}
 use lib.ListN.{length}
 use Rattle.forms.specs.Choice.{if_then_else_, anyOf}
 use Rattle.forms.specs.Checks.{first}
 use Rattle.forms.specs.Words.{_or_, _and_, Number, Gives}
-use Rattle.forms.proofs.Choice.{if-true, if-false}
+use Rattle.forms.proofs.Choice.{if-true, if-false, if-arms}
 use Rattle.forms.proofs.Decides.{Decides, words, is-so, stable, either-way, by-lt, by-eq, by-le, skip, take, one-number, exactly, listed as one-listed, numbersIn, within, among}
 use Rattle.band.specs.declared.Mean.{Mean}
 use Rattle.band.proofs.Words.{printed-given}
 use Rattle.band.proofs.Laws.{printed-of-none}
 use Rattle.rules.specs.Stock.{Whole, stateOf}
 use Rattle.rules.specs.Quotes.{bandsIn, bestOf}
+use Rattle.rules.specs.Numbers as numbers
 use Rattle.rules.specs.Numbers.{badShape, callChecks, tells, settles, reads, answer, zeros, noNotice, afterTelling, afterSettling, notice, printedReference, tellAnswer, settleAnswer, readAnswer, setupAnswer, fresh}
 use Rattle.rules.specs.Machine.{numberIn, stock}
-use Rattle.rules.specs.Book.{machine, blank, bookTells, bookSettles, bookReads}
-use Rattle.rules.specs.Words.{IsShape, refusals, settleRefusals, readRefusals, bookRefusals, setupRefusals, IsPrinted, ShowsNothing, Shows}
+use Rattle.rules.specs.Counted as counted
+use Rattle.rules.specs.Counted.{Counted, noSummary}
+use Rattle.rules.specs.TotalsWords as with-totals
+use Rattle.rules.specs.Book.{counting, blank, bookTells, bookSettles, bookReads, bookTotals}
+use Rattle.rules.specs.Words.{IsShape, bookRefusals, setupRefusals, IsPrinted, ShowsNothing, Shows}
 use Rattle.rules.specs.Demands.{CallsLeave, AnswersShow, BookAnswers, BookNumbersAre, NumbersListed, numbersOf, FreshIs}
 use Rattle.rules.specs.declared.Stock.{Stock}
 use Rattle.rules.specs.declared.Answer.{Answer}
 use Rattle.rules.specs.declared.Notice.{Notice}
+use Rattle.rules.specs.declared.Summary.{Summary}
 use Rattle.rules.specs.declared.Message.{Message}
 use Rattle.rules.specs.declared.Message.the-variants.{Trade as T, Quote as Q, Opening as O, Pause as P, Reopening as R, Closing as X}
 use Rattle.rules.proofs.BestQuotes.{bands-shown, bid-shown, offer-shown}
-use Rattle.rules.proofs.Numbers.{told, settled, was-read, set-up}
+use Rattle.rules.proofs.Counted.{told-with, settled-with, read-with, totals-number}
+use Rattle.rules.proofs.Numbers.{set-up}
 use Rattle.rules.proofs.Ranges.{shape-is}
 
 -- ------------------------------------------------------------------ a call on a stock
@@ -164,27 +170,43 @@ module _ {A : Type 0} (zero : ℕ → A) (it : A) (numberOf : A → ℕ) (its : 
 pub nothing-shown : (n : ℕ) (a : Answer) → a ≡ zeros n → ShowsNothing a
 nothing-shown n a e = rw e (refl, (refl, (refl, (refl, (refl, (refl, (refl, refl)))))))
 
-module _ (end : ℕ) (b : List Whole) (times prices i : ℕ) where
-  abbrev here : Whole
-  here = stock machine (blank end) b i
+-- the number of each answer of a stock with totals
+pub told-number : (m : Message) (c : Counted) → counted.tellAnswer m c .number ≡ counted.tells m c
+unfolding counted.tellAnswer
+told-number m c = number-of _ _
 
-  told-on : (m : Message) → Gives (bookRefusals (length b) times prices i (refusals m here)) (bookTells end b times prices i m .number)
-  unfolding bookTells tellAnswer
+pub settled-number : (time : ℕ) (c : Counted) → counted.settleAnswer time c .answer .number ≡ counted.settles time c
+unfolding counted.settleAnswer numbers.notice
+settled-number time c = if-arms (λ (a : Notice). a .answer .number ≡ counted.settles time c) _
+    (λ e. number-of 0 _ ∙ sym (eqb-true _ 0 e)) (λ _. number-of _ _)
+
+pub read-number : (c : Counted) → counted.readAnswer c .number ≡ counted.reads c
+unfolding counted.readAnswer
+read-number c = number-of _ _
+
+module _ (end : ℕ) (b : List Counted) (times prices i : ℕ) where
+  abbrev here : Counted
+  here = stock counting (blank end) b i
+
+  told-on : (m : Message) → Gives (bookRefusals (length b) times prices i (with-totals.refusals m here)) (bookTells end b times prices i m .number)
+  unfolding bookTells
   told-on m = called-number zeros _ (λ a. a .number) (λ n. refl) (length b) times prices i _
-      (subst (Gives (refusals m here)) (sym (number-of (tells m here) _)) (told m here))
+      (subst (Gives (with-totals.refusals m here)) (sym (told-number m here)) (told-with m here))
 
-  settled-number : (time : ℕ) → settleAnswer time here .answer .number ≡ settles time here
-  settled-number time = shows here .1 time .0 .0
-
-  settled-on : (time : ℕ) → Gives (bookRefusals (length b) times prices i (settleRefusals time here)) (bookSettles end b times prices i time .answer .number)
+  settled-on : (time : ℕ) → Gives (bookRefusals (length b) times prices i (with-totals.settleRefusals time here)) (bookSettles end b times prices i time .answer .number)
   unfolding bookSettles
   settled-on time = called-number {A = Notice} noNotice _ (λ a. a .answer .number) (λ n. refl) (length b) times prices i _
-      (subst (Gives (settleRefusals time here)) (sym (settled-number time)) (settled time here))
+      (subst (Gives (with-totals.settleRefusals time here)) (sym (settled-number time here)) (settled-with time here))
 
-  read-on : Gives (bookRefusals (length b) times prices i (readRefusals here)) (bookReads end b times prices i .number)
-  unfolding bookReads readAnswer
+  read-on : Gives (bookRefusals (length b) times prices i (with-totals.readRefusals here)) (bookReads end b times prices i .number)
+  unfolding bookReads
   read-on = called-number zeros _ (λ a. a .number) (λ n. refl) (length b) times prices i _
-      (subst (Gives (readRefusals here)) (sym (number-of (reads here) _)) (was-read here))
+      (subst (Gives (with-totals.readRefusals here)) (sym (read-number here)) (read-with here))
+
+  totals-on : Gives (bookRefusals (length b) times prices i (with-totals.readRefusals here)) (bookTotals end b times prices i .number)
+  unfolding bookTotals
+  totals-on = called-number {A = Summary} noSummary _ (λ a. a .number) (λ n. refl) (length b) times prices i _
+      (subst (Gives (with-totals.readRefusals here)) (sym (totals-number here)) (read-with here))
 
 pub answers : BookAnswers
 unfolding bookTells bookSettles bookReads
@@ -193,7 +215,7 @@ answers end b times prices i = (
   (λ time. (
     if-there {A = Notice} noNotice _ (λ a. a .answer .number) (λ n. refl) _ _ _ _,
     (λ n.
-        let e = if-not {A = Notice} noNotice (settleAnswer time (stock machine (blank end) b i))
+        let e = if-not {A = Notice} noNotice (counted.settleAnswer time (stock counting (blank end) b i))
         (λ a. a .answer .number) (λ n. refl) (length b) times prices i n in
         (nothing-shown _ _ (ap (λ a. a .answer) e), ap (λ a. a .mark) e, ap (λ a. a .time) e)),
   )),
@@ -207,12 +229,13 @@ book-numbers end b times prices i n = (
   (λ m. exactly _ _ n (told-on end b times prices i m)),
   (λ time. exactly _ _ n (settled-on end b times prices i time)),
   exactly _ _ n (read-on end b times prices i),
+  exactly _ _ n (totals-on end b times prices i),
   (λ s. (
-    (λ m. by-place (tells m (here end b times prices i)) _ _ s
-        (λ t. ap (λ a. a .number) (answers end b times prices i .0 m .0 t) ∙ shows (here end b times prices i) .0 m .0)
+    (λ m. by-place (counted.tells m (here end b times prices i)) _ _ s
+        (λ t. ap (λ a. a .number) (answers end b times prices i .0 m .0 t) ∙ told-number m (here end b times prices i))
         (told-on end b times prices i m)),
-    (λ time. by-place (settles time (here end b times prices i)) _ _ s
-        (λ t. ap (λ a. a .answer .number) (answers end b times prices i .1 time .0 t) ∙ shows (here end b times prices i) .1 time .0 .0)
+    (λ time. by-place (counted.settles time (here end b times prices i)) _ _ s
+        (λ t. ap (λ a. a .answer .number) (answers end b times prices i .1 time .0 t) ∙ settled-number time (here end b times prices i))
         (settled-on end b times prices i time)),
   )),
 )
@@ -230,7 +253,7 @@ book-numbers end b times prices i n = (
 
 -- ------------------------------------------------------------------ the numbers of each call
 
-numbers-of : (m : Message) (h : Whole) (stocks times prices i : ℕ) → within (0 ∷ numbersIn (bookRefusals stocks times prices i (refusals m h))) (numbersOf m) ≡ true
+numbers-of : (m : Message) (h : Counted) (stocks times prices i : ℕ) → within (0 ∷ numbersIn (bookRefusals stocks times prices i (with-totals.refusals m h))) (numbersOf m) ≡ true
 numbers-of (T time price) h stocks times prices i = refl
 numbers-of (Q time participant bid offer) h stocks times prices i = refl
 numbers-of (O time participant price) h stocks times prices i = refl
@@ -241,11 +264,12 @@ numbers-of (X time participant price) h stocks times prices i = refl
 pub listed : NumbersListed
 listed = (
   (λ end b times prices i.
-      let h = stock machine (blank end) b i in
+      let h = stock counting (blank end) b i in
       let on = bookRefusals (length b) times prices i in (
-        (λ m. among (0 ∷ numbersIn (on (refusals m h))) (numbersOf m) _ (numbers-of m h (length b) times prices i) (one-listed _ _ (told-on end b times prices i m))),
-        (λ time. among (0 ∷ numbersIn (on (settleRefusals time h))) (0 ∷ 1 ∷ 3 ∷ 4 ∷ 14 ∷ []) _ refl (one-listed _ _ (settled-on end b times prices i time))),
-        among (0 ∷ numbersIn (on (readRefusals h))) (0 ∷ 1 ∷ 3 ∷ []) _ refl (one-listed _ _ (read-on end b times prices i)),
+        (λ m. among (0 ∷ numbersIn (on (with-totals.refusals m h))) (numbersOf m) _ (numbers-of m h (length b) times prices i) (one-listed _ _ (told-on end b times prices i m))),
+        (λ time. among (0 ∷ numbersIn (on (with-totals.settleRefusals time h))) (0 ∷ 1 ∷ 3 ∷ 4 ∷ 14 ∷ []) _ refl (one-listed _ _ (settled-on end b times prices i time))),
+        among (0 ∷ numbersIn (on (with-totals.readRefusals h))) (0 ∷ 1 ∷ 3 ∷ []) _ refl (one-listed _ _ (read-on end b times prices i)),
+        among (0 ∷ numbersIn (on (with-totals.readRefusals h))) (0 ∷ 1 ∷ 3 ∷ []) _ refl (one-listed _ _ (totals-on end b times prices i)),
       )),
   (λ stocks times prices end us.
       among (0 ∷ numbersIn (setupRefusals stocks times prices end us)) (0 ∷ 1 ∷ 2 ∷ []) _ refl (one-listed _ _ (set-up stocks times prices end us))),

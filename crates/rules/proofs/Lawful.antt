@@ -1,4 +1,4 @@
--- The rules of document 01 have the laws of a machine; so a stock is what its history leaves, and demand 3 holds.
+-- The rules of document 01 have the laws of a machine.
 -- Assumes nothing.
 use Prim.Native.Nat.{ℕ, _≤_, _<_}
 use mathlib.Core.Bool.{Bool, true, false, true≢false}
@@ -11,10 +11,9 @@ use Rattle.rules.specs.Stock.{Whole, clockOf}
 use Rattle.rules.specs.Moments.{dueBy, pastAt, nextOf, fire}
 use Rattle.rules.specs.Messages.{timeOf}
 use Rattle.rules.specs.Numbers.{rubbish, notice}
-use Rattle.rules.specs.Machine.{MachineLaws, ByHistory, Alike}
+use Rattle.rules.specs.Machine.{MachineLaws}
 use Rattle.rules.specs.Book.{machine}
 use Rattle.rules.specs.declared.Moment.{Moment}
-use Rattle.rules.proofs.Alike.{by-history, alike}
 use Rattle.rules.proofs.Earliest.{IsMoment}
 use Rattle.rules.proofs.Kept.{after-kept, come-kept}
 use Rattle.rules.proofs.Passed.{told, settled, idle}
@@ -67,9 +66,3 @@ machineLaws = record {
   at-moment = fire-clock;
   nothing-due = λ t h e d k. let l = when-not t (nextOf h) (idle t h e .none-due) (k .0) in omega (arith, k .1);
 }
-
-pub rules-by-history : (blank : Whole) → ByHistory machine blank
-rules-by-history = by-history machine machineLaws
-
-pub rules-settled-alike : (blank : Whole) → Alike machine blank
-rules-settled-alike = alike machine machineLaws

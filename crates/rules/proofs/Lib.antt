@@ -33,6 +33,7 @@ pub mod Ranges
 pub mod Coming
 pub mod Numbers
 pub mod Reasons
+pub mod Counted
 pub mod Answers
 pub mod Next
 pub mod Means
@@ -42,3 +43,6 @@ pub mod After
 pub mod Only
 pub mod Looks
 pub mod Since
+pub mod TotalsAfter
+pub mod TotalsRead
+pub mod Around

@@ -5,18 +5,20 @@ use mathlib.Core.Bool.{Bool, true, false, not}
 use mathlib.Core.Logic.{inl, inr, ⊎-elim, _↔_}
 use mathlib.Core.Path.{_≡_, refl, sym, ap, _∙_, subst}
 use native.Mathlib.Omega.{arith}
-use borrow.Author.Tests.{eq-eqb, ne-eqb}
+use borrow.Author.Tests.{eq-eqb, ne-eqb, eqb-true}
 use lib.ListN.{length}
 use Rattle.forms.specs.Choice.{if_then_else_}
 use Rattle.forms.specs.Checks.{first}
 use Rattle.forms.specs.Words.{_or_, _and_}
-use Rattle.forms.proofs.Choice.{if-true, if-false}
+use Rattle.forms.proofs.Choice.{if-true, if-false, if-arms}
 use Rattle.forms.proofs.Decides.{is-false, either-way, by-eq, by-le, not-le, past}
 use Rattle.rules.specs.Stock.{Whole, Late, stateOf, figuresOf}
 use Rattle.rules.specs.Moments.{dueBy, nextOf}
 use Rattle.rules.specs.Numbers.{notTime, rubbish, timeChecks, settleChecks, settles, reads, notice, settleAnswer, readAnswer, noneComing, nextAnswer, zeros}
 use Rattle.rules.specs.Machine.{stock}
-use Rattle.rules.specs.Book.{machine, blank, bookReads, bookNext}
+use Rattle.rules.specs.Counted as counted
+use Rattle.rules.specs.Counted.{Counted}
+use Rattle.rules.specs.Book.{counting, blank, bookReads, bookNext}
 use Rattle.rules.specs.Words.{IsTime, moments, Comes, Rubbish, ShowsNone, ShowsNext}
 use Rattle.rules.specs.Demands.{NextIs, BookNextIs, NextSettles}
 use Rattle.rules.specs.declared.Figures.{Figures}
@@ -56,19 +58,23 @@ shows-none h n = subst ShowsNone (sym (if-false _ _ (noneComing (reads h)) (ne-e
 pub next-is : NextIs
 next-is h = (next-number h, shows-next h, shows-none h)
 
+pub next-number-with : (c : Counted) → counted.nextAnswer c .number ≡ counted.reads c
+unfolding counted.nextAnswer
+next-number-with c = if-arms (λ (u : Upcoming). u .number ≡ counted.reads c) _ (λ e. sym (eqb-true _ 0 e)) (λ _. refl)
+
 -- a book's first checks give both one number, and so does the stock
-same-number : (b : Bool) (h : Whole) (c : ℕ) → (if b then nextAnswer h else noneComing c) .number ≡ (if b then readAnswer h else zeros c) .number
-unfolding if_then_else_ readAnswer
-same-number true h c = next-number h ∙ sym (number-of (reads h) (h .stock))
+same-number : (b : Bool) (h : Counted) (c : ℕ) → (if b then counted.nextAnswer h else noneComing c) .number ≡ (if b then counted.readAnswer h else zeros c) .number
+unfolding if_then_else_ counted.readAnswer
+same-number true h c = next-number-with h ∙ sym (number-of (counted.reads h) (h .whole .stock))
 same-number false h c = refl
 
 pub book-next : BookNextIs
 unfolding bookNext bookReads
 book-next end b times prices i =
-    let h = stock machine (blank end) b i in (
+    let h = stock counting (blank end) b i in (
       same-number _ h _,
-      if-there noneComing (nextAnswer h) (λ u. u .number) (λ n. refl) (length b) times prices i,
-      (λ n. subst ShowsNone (sym (if-not noneComing (nextAnswer h) (λ u. u .number) (λ n. refl) (length b) times prices i n)) (refl, refl)),
+      if-there noneComing (counted.nextAnswer h) (λ u. u .number) (λ n. refl) (length b) times prices i,
+      (λ n. subst ShowsNone (sym (if-not noneComing (counted.nextAnswer h) (λ u. u .number) (λ n. refl) (length b) times prices i n)) (refl, refl)),
     )
 
 -- ------------------------------------------------------------------ its time

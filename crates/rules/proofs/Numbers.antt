@@ -33,7 +33,7 @@ pub rubbish-is : (h : Whole) → Decides (rubbish h) (Rubbish h)
 unfolding rubbish
 rubbish-is h = search (words, stock-is, trades-are, past-is) depth 20
 
-state-below : (h : Whole) → ¬ Rubbish h → stateOf (h .stock) < 6
+pub state-below : (h : Whole) → ¬ Rubbish h → stateOf (h .stock) < 6
 state-below h n = let k : ¬ (5 < stateOf (h .stock)) = λ l. n (inl (inl l)) in omega arith
 
 -- ------------------------------------------------------------------ the table of message by state

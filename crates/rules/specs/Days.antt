@@ -5,14 +5,15 @@ use mathlib.Core.Bool.{Bool, true, false}
 use mathlib.Core.List.{List, [], _∷_, _++_, map}
 use lib.Dec.{eqb}
 use Rattle.forms.specs.Choice.{if_then_else_}
-use Rattle.rules.specs.Stock.{Whole}
+use Rattle.rules.specs.Counted.{Counted}
 use Rattle.rules.specs.Moments.{mark-z, mark-w, mark-x, mark-p, mark-c, mark-v, mark-f, mark-h}
 use Rattle.rules.specs.Messages.{letter-T, letter-Q, letter-O, letter-P, letter-R, letter-X, letter, timeOf}
 use Rattle.rules.specs.Numbers.{answer}
 use Rattle.rules.specs.Machine.{Call, tell, settle, On, notices, stepIn}
-use Rattle.rules.specs.Book.{machine, blank, book, story, bookTells, bookSettles}
+use Rattle.rules.specs.Book.{counting, blank, book, now, story, bookTells, bookSettles}
 use Rattle.rules.specs.Readings.{limitPauses}
 use Rattle.rules.specs.declared.Setup.{Setup}
+use Rattle.rules.specs.declared.Totals.{Totals}
 use Rattle.rules.specs.declared.Answer.{Answer}
 use Rattle.rules.specs.declared.Notice.{Notice}
 use Rattle.rules.specs.declared.Message.{Message}
@@ -32,12 +33,12 @@ abbrev pub on-0 : Call Message → On (Call Message)
 on-0 c = record { at = 0; it = c }
 
 -- what calls on a book of one stock print: a settling that does no moment prints nothing
-unfoldable pub printed : ℕ → List Whole → List (Call Message) → List (List ℕ)
+unfoldable pub printed : ℕ → List Counted → List (Call Message) → List (List ℕ)
 printed end b [] = []
-printed end b (tell m ∷ cs) = line (timeOf m) (letter m) (bookTells end b 512 512 0 m) ∷ printed end (stepIn machine (blank end) b (on-0 (tell m))) cs
+printed end b (tell m ∷ cs) = line (timeOf m) (letter m) (bookTells end b 512 512 0 m) ∷ printed end (stepIn counting (blank end) b (on-0 (tell m))) cs
 printed end b (settle time ∷ cs) =
     let n = bookSettles end b 512 512 0 time in
-    (if eqb (n .answer .number) 0 then noticed n ∷ [] else []) ++ printed end (stepIn machine (blank end) b (on-0 (settle time))) cs
+    (if eqb (n .answer .number) 0 then noticed n ∷ [] else []) ++ printed end (stepIn counting (blank end) b (on-0 (settle time))) cs
 
 unfoldable pub sameNumbers : List ℕ → List ℕ → Bool
 sameNumbers [] [] = true
@@ -599,3 +600,15 @@ allDay =
     tell (Q 0 5 0 92_000) ∷
     reopened 315_000 115_000 2 ++ reopened 945_000 102_200 67 ++ reopened 22_050_000 115_000 4 ++
     settle 23_010_000 ∷ []
+
+-- ------------------------------------------------------------------ day totals (R-4)
+
+-- the six times, limit states, pauses, highest and lowest
+abbrev pub totalNumbers : Totals → List ℕ
+totalNumbers t =
+    let s = t .spent in
+    s .waiting ∷ s .trading ∷ s .limit ∷ s .paused ∷ s .late ∷ s .closed ∷ t .limits ∷ t .pauses ∷ t .highest ∷ t .lowest ∷ []
+
+-- the totals that a day leaves
+unfoldable pub totalsOf : Day → List ℕ
+totalsOf d = totalNumbers (now (d .end) (d .setup ∷ []) (map on-0 (d .calls)) 0 .totals)

@@ -27,11 +27,13 @@
 --   becomes machine h e     the stock after an event e, which is a message or a moment
 --   afterTelling, afterSettling, tellAnswer, settleAnswer, readAnswer
 --                           the stock after such a call, accepted or refused, and its answer; the names with `book` are those of a book
---   stock machine d b i     the ith stock of the book b; `stepIn` and `numberIn` are the book after a call on it, and the call's number
+--   stock counting d b i    the ith stock of the book b; `stepIn` and `numberIn` are the book after a call on it, and the call's number
+--   c .whole, c .totals     of a stock with its day totals: the stock, and the totals. `counted.tells` and the like are what `tells` is, with totals
+--   keeps end u es          the totals that are kept along the story es
 --   story end us cs i       the story of the ith stock after a setup us and calls cs, and `now` is that stock
 --   askedOf end us cs ds i  the calls of ds on the ith stock, made after cs, accepted or refused, each with the stock that it found
 --   journalOf end us cs i   the calls of cs on the ith stock that were answered 0, each with the stock that it found
---   called machine xs       the calls of such a list, without the stocks
+--   called counting xs      the calls of such a list, without the stocks
 --   limitPauses ns          the starts of the limit pauses among the notices ns, and `notices es` are those of the story es
 --   Apart d ts              any two of the dates ts are at least d apart
 --   Allowed end u es        es is a story of a stock with setup u and session's end `end`, in a row that the rules allow
@@ -52,16 +54,21 @@ use Rattle.rules.specs.Moments.{mark-f, fire}
 use Rattle.rules.specs.Messages.{after}
 use Rattle.rules.specs.Numbers.{tells, settles, reads, setsUp, afterTelling, afterSettling, notice, tellAnswer, settleAnswer, readAnswer, setupAnswer, fresh, nextAnswer}
 use Rattle.rules.specs.Machine.{Machine, MachineLaws, Alike, Call, tell, settle, On, of, Every, journal, IsJournal, Event, message, moment, messages, notices, Lawful, becomes, left, Asked, numberOf, called, Calls, stock, numberIn, stepIn}
-use Rattle.rules.specs.Book.{machine, Story, Accepted, noSetup, blank, book, now, story, askedOf, journalOf, Settled, bookTells, bookSettles, bookReads, bookNext}
+use Rattle.rules.specs.Counted as counted
+use Rattle.rules.specs.Counted.{Counted, noSummary}
+use Rattle.rules.specs.Book.{machine, counting, Story, Accepted, noSetup, blank, book, now, story, askedOf, journalOf, Settled, bookTells, bookSettles, bookReads, bookNext, bookTotals}
 use Rattle.rules.specs.Words.{IsShape, IsEnd, IsSetup, IsMean, IsPriceAlone, HasBands, AtBand, Crossing, moments, IsFirst, Rubbish, refusals, ReachesTable, WrongState, TooLate, NoStraddle, settleRefusals, readRefusals, bookRefusals, setupRefusals, ShowsNothing, Shows, IsTime, itsMoment, AnswerInRange, NoticeInRange, UpcomingInRange, ShowsNone, ShowsNext}
-use Rattle.rules.specs.Changes.{recent, TradesAfter, Quoted, QuotesAfter, ReferenceAfter, EndsPause, stateAfter, KeptAfter}
-use Rattle.rules.specs.Readings.{joined, lastQuote, NoneStarted, StartedBy, lastDate, limitPauses, countOf, MomentsOnly}
-use Rattle.rules.specs.Pauses.{before, PauseAt, LimitSince, PausedSince}
+use Rattle.rules.specs.Changes.{recent, TradesAfter, Quoted, QuotesAfter, ReferenceAfter, EndsPause, StartsPause, stateAfter, KeptAfter}
+use Rattle.rules.specs.TotalsWords as with-totals
+use Rattle.rules.specs.TotalsWords.{TotalsAfter, NoTotals, Wrong}
+use Rattle.rules.specs.Readings.{joined, lastQuote, NoneStarted, StartedBy, lastDate, limitPauses, countOf, MomentsOnly, waitingTime, tradingTime, limitTime, pausedTime, lateTime, closedTime, Counts, KeptCount, tradePrices, IsHighest, IsLowest}
+use Rattle.rules.specs.Pauses.{before, PauseAt, EntersLimit, LimitSince, PausedSince}
 use Rattle.rules.specs.LimitPauses.{Apart, leastDistance, pausesBound}
 use Rattle.rules.specs.Examples.{right, byHand}
-use Rattle.rules.specs.Days.{asPrinted, days, listed, aLatePause, aPause, aStraddle, soonestAgain, limitAgain, pausesBy, pausesOf, evenly, allDay}
+use Rattle.rules.specs.Days.{asPrinted, days, listed, theDay, aLatePause, aPause, aStraddle, theExactMean, theLooks, offerStraddle, soonestAgain, limitAgain, pausesBy, pausesOf, evenly, allDay, totalsOf}
 use Rattle.rules.specs.Edges.{asAnswered, edges}
 use Rattle.rules.specs.declared.Setup.{Setup}
+use Rattle.rules.specs.declared.Totals.{Totals}
 use Rattle.rules.specs.declared.Notice.{Notice}
 use Rattle.rules.specs.declared.Message.{Message}
 use Rattle.rules.specs.declared.Message.the-variants.{Trade as T, Quote as Q, Opening as O, Pause as P, Reopening as R, Closing as X}
@@ -75,6 +82,10 @@ pub record Allowed (end : ℕ) (u : Setup) (es : Story) : Type 0 where
 -- The stock that a story leaves.
 abbrev pub leaves : ℕ → Setup → Story → Whole
 leaves end u es = left machine (fresh end u) es
+
+-- The totals that are kept along a story: every accepted call brings them up to date.
+abbrev pub keeps : ℕ → Setup → Story → Totals
+keeps end u es = left counting (counted.fresh end u) es .totals
 
 -- An event that the rules allow next.
 abbrev pub CanHappen : Whole → Event Message Notice → Type 0
@@ -92,14 +103,15 @@ NumbersAre = (h : Whole) (n : ℕ)
 -- A call on a book is answered in the same way, after checks of the book's shape and of the stock's number. For a book of the right shape this is
 -- `numberIn`, by which calls change a book.
 abbrev pub BookNumbersAre : Type 0
-BookNumbersAre = (end : ℕ) (b : List Whole) (times prices i n : ℕ)
-    → let h = stock machine (blank end) b i in
-    ((m : Message) → (bookTells end b times prices i m .number ≡ n) ↔ Gives (bookRefusals (length b) times prices i (refusals m h)) n)
-    × ((time : ℕ) → (bookSettles end b times prices i time .answer .number ≡ n) ↔ Gives (bookRefusals (length b) times prices i (settleRefusals time h)) n)
-    × ((bookReads end b times prices i .number ≡ n) ↔ Gives (bookRefusals (length b) times prices i (readRefusals h)) n)
+BookNumbersAre = (end : ℕ) (b : List Counted) (times prices i n : ℕ)
+    → let h = stock counting (blank end) b i in
+    ((m : Message) → (bookTells end b times prices i m .number ≡ n) ↔ Gives (bookRefusals (length b) times prices i (with-totals.refusals m h)) n)
+    × ((time : ℕ) → (bookSettles end b times prices i time .answer .number ≡ n) ↔ Gives (bookRefusals (length b) times prices i (with-totals.settleRefusals time h)) n)
+    × ((bookReads end b times prices i .number ≡ n) ↔ Gives (bookRefusals (length b) times prices i (with-totals.readRefusals h)) n)
+    × ((bookTotals end b times prices i .number ≡ n) ↔ Gives (bookRefusals (length b) times prices i (with-totals.readRefusals h)) n)
     × (IsShape (length b) times prices
-    → ((m : Message) → numberIn machine (blank end) b (record { at = i; it = tell m }) ≡ bookTells end b times prices i m .number)
-    × ((time : ℕ) → numberIn machine (blank end) b (record { at = i; it = settle time }) ≡ bookSettles end b times prices i time .answer .number))
+    → ((m : Message) → numberIn counting (blank end) b (record { at = i; it = tell m }) ≡ bookTells end b times prices i m .number)
+    × ((time : ℕ) → numberIn counting (blank end) b (record { at = i; it = settle time }) ≡ bookSettles end b times prices i time .answer .number))
 
 -- A setup is answered n exactly where n's words hold and no earlier number's do.
 abbrev pub SetupNumbersAre : Type 0
@@ -118,10 +130,11 @@ numbersOf (X time participant price) = 0 ∷ 1 ∷ 3 ∷ 4 ∷ 5 ∷ 6 ∷ 7 ∷
 -- Every number that a call gives is one of the call's list.
 abbrev pub NumbersListed : Type 0
 NumbersListed =
-    ((end : ℕ) (b : List Whole) (times prices i : ℕ)
+    ((end : ℕ) (b : List Counted) (times prices i : ℕ)
     → ((m : Message) → IsOneOf (bookTells end b times prices i m .number) (numbersOf m))
     × ((time : ℕ) → IsOneOf (bookSettles end b times prices i time .answer .number) (0 ∷ 1 ∷ 3 ∷ 4 ∷ 14 ∷ []))
-    × IsOneOf (bookReads end b times prices i .number) (0 ∷ 1 ∷ 3 ∷ []))
+    × IsOneOf (bookReads end b times prices i .number) (0 ∷ 1 ∷ 3 ∷ [])
+    × IsOneOf (bookTotals end b times prices i .number) (0 ∷ 1 ∷ 3 ∷ []))
     × ((stocks times prices end : ℕ) (us : List Setup) → IsOneOf (setsUp stocks times prices end us) (0 ∷ 1 ∷ 2 ∷ []))
 
 -- 9 comes from the table of message by state alone: it is given exactly where no check before the table applies and the state is wrong for the
@@ -169,13 +182,13 @@ AnswersFit = (h : Whole) → length (h .stock .quotes .bids) ≡ 16 → length (
 
 -- A book of the right shape answers a call on one of its stocks as that stock answers it; it answers any other call with zeros.
 abbrev pub BookAnswers : Type 0
-BookAnswers = (end : ℕ) (b : List Whole) (times prices i : ℕ)
-    → let h = stock machine (blank end) b i in
+BookAnswers = (end : ℕ) (b : List Counted) (times prices i : ℕ)
+    → let h = stock counting (blank end) b i in
     let there = IsShape (length b) times prices and i < length b in
-    ((m : Message) → (there → bookTells end b times prices i m ≡ tellAnswer m h) × (¬ there → ShowsNothing (bookTells end b times prices i m)))
-    × ((time : ℕ) → (there → bookSettles end b times prices i time ≡ settleAnswer time h)
+    ((m : Message) → (there → bookTells end b times prices i m ≡ counted.tellAnswer m h) × (¬ there → ShowsNothing (bookTells end b times prices i m)))
+    × ((time : ℕ) → (there → bookSettles end b times prices i time ≡ counted.settleAnswer time h)
     × (¬ there → ShowsNothing (bookSettles end b times prices i time .answer) × (bookSettles end b times prices i time .mark ≡ 0) × (bookSettles end b times prices i time .time ≡ 0)))
-    × (there → bookReads end b times prices i ≡ readAnswer h) × (¬ there → ShowsNothing (bookReads end b times prices i))
+    × (there → bookReads end b times prices i ≡ counted.readAnswer h) × (¬ there → ShowsNothing (bookReads end b times prices i))
 
 -- ---------------------------------------------------------------- what comes next
 
@@ -187,10 +200,10 @@ NextIs = (h : Whole) → let u = nextAnswer h in
 
 -- A book of the right shape gives this answer for a stock that it has; any other call gets the number of reading, and no moment.
 abbrev pub BookNextIs : Type 0
-BookNextIs = (end : ℕ) (b : List Whole) (times prices i : ℕ) → let u = bookNext end b times prices i in
+BookNextIs = (end : ℕ) (b : List Counted) (times prices i : ℕ) → let u = bookNext end b times prices i in
     let there = IsShape (length b) times prices and i < length b in
     (u .number ≡ bookReads end b times prices i .number)
-    × (there → u ≡ nextAnswer (stock machine (blank end) b i)) × (¬ there → ShowsNone u)
+    × (there → u ≡ counted.nextAnswer (stock counting (blank end) b i)) × (¬ there → ShowsNone u)
 
 -- A timer can be set by what comes next. Its time is not before the clock, and it is in range. Settling to any time in range is answered 14
 -- exactly where no moment is to come or the time is before it; otherwise it does this moment and no other, whatever time the call names.
@@ -213,42 +226,44 @@ FreshIs = (end : ℕ) (u : Setup) → let h = fresh end u in let s = h .stock in
     and s .quotes .bids ≡ replicate 16 0 and s .quotes .offers ≡ replicate 16 0
     and h .window ≡ []
 
--- After an accepted setup and any calls, each stock is what its own story leaves, and the rules allow that story.
+-- After an accepted setup and any calls, each stock is what its own story leaves, its totals are those kept along that story, and the rules allow
+-- the story.
 abbrev pub ByStory : Type 0
-ByStory = (end : ℕ) (us : List Setup) → Accepted end us → (cs : Calls machine) (i : ℕ) → i < length us
+ByStory = (end : ℕ) (us : List Setup) → Accepted end us → (cs : Calls counting) (i : ℕ) → i < length us
     → Allowed end (getD us i noSetup) (story end us cs i)
-    × (now end us cs i ≡ leaves end (getD us i noSetup) (story end us cs i))
+    × (now end us cs i .whole ≡ leaves end (getD us i noSetup) (story end us cs i))
+    × (now end us cs i .totals ≡ keeps end (getD us i noSetup) (story end us cs i))
 
 -- A call leaves as many stocks as there were, and the stock that it names as the call on that stock leaves it.
 abbrev pub CallsStep : Type 0
-CallsStep = (end : ℕ) (b : List Whole) (i : ℕ)
-    → let h = stock machine (blank end) b i in
-    ((m : Message) → let b′ = stepIn machine (blank end) b (record { at = i; it = tell m }) in
-    (length b′ ≡ length b) × (i < length b → stock machine (blank end) b′ i ≡ afterTelling m h))
-    × ((time : ℕ) → let b′ = stepIn machine (blank end) b (record { at = i; it = settle time }) in
-    (length b′ ≡ length b) × (i < length b → stock machine (blank end) b′ i ≡ afterSettling time h))
+CallsStep = (end : ℕ) (b : List Counted) (i : ℕ)
+    → let h = stock counting (blank end) b i in
+    ((m : Message) → let b′ = stepIn counting (blank end) b (record { at = i; it = tell m }) in
+    (length b′ ≡ length b) × (i < length b → stock counting (blank end) b′ i ≡ counted.afterTelling m h))
+    × ((time : ℕ) → let b′ = stepIn counting (blank end) b (record { at = i; it = settle time }) in
+    (length b′ ≡ length b) × (i < length b → stock counting (blank end) b′ i ≡ counted.afterSettling time h))
 
 -- A setup starts one stock for each of its setups, with an empty story. An accepted message is the next event of the story of the stock that it
 -- names, and so is a settled moment; no other call on a stock of the book changes a story.
 abbrev pub StoriesGrow : Type 0
 StoriesGrow = (end : ℕ) (us : List Setup) → (length (book end us) ≡ length us)
-    × ((i : ℕ) → (story end us [] i ≡ []) × ((cs : Calls machine) (j : ℕ) → j < length us
+    × ((i : ℕ) → (story end us [] i ≡ []) × ((cs : Calls counting) (j : ℕ) → j < length us
     → let h = now end us cs j in
     let after-call : Call Message → Story = λ it. story end us (cs ++ (record { at = j; it = it } ∷ [])) i in
-    ((m : Message) → (i ≡ j and tells m h ≡ 0 → after-call (tell m) ≡ story end us cs i ++ (message m ∷ []))
-    × (¬ (i ≡ j and tells m h ≡ 0) → after-call (tell m) ≡ story end us cs i))
-    × ((time : ℕ) → (i ≡ j and settles time h ≡ 0 → after-call (settle time) ≡ story end us cs i ++ (moment (notice h) ∷ []))
-    × (¬ (i ≡ j and settles time h ≡ 0) → after-call (settle time) ≡ story end us cs i))))
+    ((m : Message) → (i ≡ j and counted.tells m h ≡ 0 → after-call (tell m) ≡ story end us cs i ++ (message m ∷ []))
+    × (¬ (i ≡ j and counted.tells m h ≡ 0) → after-call (tell m) ≡ story end us cs i))
+    × ((time : ℕ) → (i ≡ j and counted.settles time h ≡ 0 → after-call (settle time) ≡ story end us cs i ++ (moment (counted.notice h) ∷ []))
+    × (¬ (i ≡ j and counted.settles time h ≡ 0) → after-call (settle time) ≡ story end us cs i))))
 
 -- A call that a stock refuses changes nothing. A book of a wrong shape answers 1 (`book-numbers`), and the crate book leaves its bytes.
 abbrev pub Refused : Type 0
-Refused = (end : ℕ) (b : List Whole) (c : On (Call Message)) → ¬ (numberIn machine (blank end) b c ≡ 0)
-    → stepIn machine (blank end) b c ≡ b
+Refused = (end : ℕ) (b : List Counted) (c : On (Call Message)) → ¬ (numberIn counting (blank end) b c ≡ 0)
+    → stepIn counting (blank end) b c ≡ b
 
 -- A call changes nothing but the stock that it names.
 abbrev pub OthersStay : Type 0
-OthersStay = (end : ℕ) (b : List Whole) (c : On (Call Message)) (i : ℕ) → ¬ (i ≡ c .at)
-    → stock machine (blank end) (stepIn machine (blank end) b c) i ≡ stock machine (blank end) b i
+OthersStay = (end : ℕ) (b : List Counted) (c : On (Call Message)) (i : ℕ) → ¬ (i ≡ c .at)
+    → stock counting (blank end) (stepIn counting (blank end) b c) i ≡ stock counting (blank end) b i
 
 -- No call ever makes rubbish.
 abbrev pub NeverRubbish : Type 0
@@ -261,7 +276,7 @@ OfAnyMachine = (𝓜 : Machine) → MachineLaws 𝓜 → (blank : 𝓜 .Stock) �
 -- Where the stocks of two books get the same messages, and both books are settled to one time and not beyond, the stocks and the dated notices
 -- are equal.
 abbrev pub SettledAlike : Type 0
-SettledAlike = (end : ℕ) (us : List Setup) (cs ds : Calls machine) (time : ℕ) → Settled end time us cs → Settled end time us ds
+SettledAlike = (end : ℕ) (us : List Setup) (cs ds : Calls counting) (time : ℕ) → Settled end time us cs → Settled end time us ds
     → ((i : ℕ) → messages (story end us cs i) ≡ messages (story end us ds i))
     → (i : ℕ) → i < length us
     → (now end us cs i ≡ now end us ds i) × (notices (story end us cs i) ≡ notices (story end us ds i))
@@ -280,8 +295,8 @@ JournalsAre = (A : Type 0) (number : A → ℕ) (xs es : List A)
 -- The calls that were made on stock i are none at first. Each call on it is the next of them, with the stock that it found, accepted or refused.
 -- A call on another stock, or on none, is not among them.
 abbrev pub AskedGrow : Type 0
-AskedGrow = (end : ℕ) (us : List Setup) (cs : Calls machine) (i : ℕ) → i < length us
-    → (askedOf end us cs [] i ≡ []) × ((ds : Calls machine) (j : ℕ) (it : Call Message)
+AskedGrow = (end : ℕ) (us : List Setup) (cs : Calls counting) (i : ℕ) → i < length us
+    → (askedOf end us cs [] i ≡ []) × ((ds : Calls counting) (j : ℕ) (it : Call Message)
     → let after-call = askedOf end us cs (ds ++ (record { at = j; it = it } ∷ [])) i in
     (i ≡ j → after-call ≡ askedOf end us cs ds i ++ (record { call = it; found = now end us (cs ++ ds) i } ∷ []))
     × (¬ (i ≡ j) → after-call ≡ askedOf end us cs ds i))
@@ -290,13 +305,13 @@ AskedGrow = (end : ℕ) (us : List Setup) (cs : Calls machine) (i : ℕ) → i <
 -- a call on another stock, or on none, are not entered.
 abbrev pub JournalsGrow : Type 0
 JournalsGrow = (end : ℕ) (us : List Setup) (i : ℕ) → i < length us
-    → (journalOf end us [] i ≡ []) × ((cs : Calls machine) (j : ℕ)
+    → (journalOf end us [] i ≡ []) × ((cs : Calls counting) (j : ℕ)
     → let h = now end us cs i in
-    let after-call : Call Message → List (Asked machine) = λ it. journalOf end us (cs ++ (record { at = j; it = it } ∷ [])) i in
-    ((m : Message) → (i ≡ j and tells m h ≡ 0 → after-call (tell m) ≡ journalOf end us cs i ++ (record { call = tell m; found = h } ∷ []))
-    × (¬ (i ≡ j and tells m h ≡ 0) → after-call (tell m) ≡ journalOf end us cs i))
-    × ((time : ℕ) → (i ≡ j and settles time h ≡ 0 → after-call (settle time) ≡ journalOf end us cs i ++ (record { call = settle time; found = h } ∷ []))
-    × (¬ (i ≡ j and settles time h ≡ 0) → after-call (settle time) ≡ journalOf end us cs i)))
+    let after-call : Call Message → List (Asked counting) = λ it. journalOf end us (cs ++ (record { at = j; it = it } ∷ [])) i in
+    ((m : Message) → (i ≡ j and counted.tells m h ≡ 0 → after-call (tell m) ≡ journalOf end us cs i ++ (record { call = tell m; found = h } ∷ []))
+    × (¬ (i ≡ j and counted.tells m h ≡ 0) → after-call (tell m) ≡ journalOf end us cs i))
+    × ((time : ℕ) → (i ≡ j and counted.settles time h ≡ 0 → after-call (settle time) ≡ journalOf end us cs i ++ (record { call = settle time; found = h } ∷ []))
+    × (¬ (i ≡ j and counted.settles time h ≡ 0) → after-call (settle time) ≡ journalOf end us cs i)))
 
 -- Stock i of one book and stock j of another have the same setup. The sizes of the books and their other stocks may differ.
 pub record SetUpAlike (us vs : List Setup) (i j : ℕ) : Type 0 where
@@ -305,32 +320,32 @@ pub record SetUpAlike (us vs : List Setup) (i j : ℕ) : Type 0 where
   pub alike : getD us i noSetup ≡ getD vs j noSetup
 
 -- Both stocks accepted the same calls, and each of these found the same stock. The stocks are equal, and so are their stories with all notices.
-pub record SameStock (end : ℕ) (us vs : List Setup) (cs ds : Calls machine) (i j : ℕ) : Type 0 where
+pub record SameStock (end : ℕ) (us vs : List Setup) (cs ds : Calls counting) (i j : ℕ) : Type 0 where
   pub journals : journalOf end us cs i ≡ journalOf end vs ds j
   pub stocks : now end us cs i ≡ now end vs ds j
   pub stories : story end us cs i ≡ story end vs ds j
 
 -- The accepted calls decide a stock and its story. Refused calls and calls on other stocks change nothing.
 abbrev pub SameJournal : Type 0
-SameJournal = (end : ℕ) (us vs : List Setup) (cs ds : Calls machine) (i j : ℕ) → SetUpAlike us vs i j
-    → called machine (journalOf end us cs i) ≡ called machine (journalOf end vs ds j)
+SameJournal = (end : ℕ) (us vs : List Setup) (cs ds : Calls counting) (i j : ℕ) → SetUpAlike us vs i j
+    → called counting (journalOf end us cs i) ≡ called counting (journalOf end vs ds j)
     → SameStock end us vs cs ds i j
 
 -- Both stocks have accepted the same calls so far: none, at the beginning. Then stock i gets more calls, and a journal of these is replayed on
 -- stock j. The journal has every accepted call and may have refused ones. Each entry finds the stock that its call found, so the answer is the same.
 abbrev pub Replayed : Type 0
-Replayed = (end : ℕ) (us vs : List Setup) (cs ds es fs : Calls machine) (i j : ℕ) → SetUpAlike us vs i j
-    → called machine (journalOf end us cs i) ≡ called machine (journalOf end vs ds j)
-    → (entries : List (Asked machine)) → IsJournal (numberOf machine) (askedOf end us cs es i) entries → of j fs ≡ called machine entries
+Replayed = (end : ℕ) (us vs : List Setup) (cs ds es fs : Calls counting) (i j : ℕ) → SetUpAlike us vs i j
+    → called counting (journalOf end us cs i) ≡ called counting (journalOf end vs ds j)
+    → (entries : List (Asked counting)) → IsJournal (numberOf counting) (askedOf end us cs es i) entries → of j fs ≡ called counting entries
     → (askedOf end vs ds fs j ≡ entries) × SameStock end us vs (cs ++ es) (ds ++ fs) i j
 
 -- Both stocks have accepted the same calls so far. Then both are settled to one time until that is refused. It does not matter how many calls
 -- are made, nor how many of them were made before a crash.
 abbrev pub SettledOn : Type 0
-SettledOn = (end time : ℕ) (us vs : List Setup) (cs ds es fs : Calls machine) (i j : ℕ) → SetUpAlike us vs i j
-    → called machine (journalOf end us cs i) ≡ called machine (journalOf end vs ds j)
-    → Every (λ c. c ≡ settle time) (of i es) → ¬ (settles time (now end us (cs ++ es) i) ≡ 0)
-    → Every (λ c. c ≡ settle time) (of j fs) → ¬ (settles time (now end vs (ds ++ fs) j) ≡ 0)
+SettledOn = (end time : ℕ) (us vs : List Setup) (cs ds es fs : Calls counting) (i j : ℕ) → SetUpAlike us vs i j
+    → called counting (journalOf end us cs i) ≡ called counting (journalOf end vs ds j)
+    → Every (λ c. c ≡ settle time) (of i es) → ¬ (counted.settles time (now end us (cs ++ es) i) ≡ 0)
+    → Every (λ c. c ≡ settle time) (of j fs) → ¬ (counted.settles time (now end vs (ds ++ fs) j) ≡ 0)
     → SameStock end us vs (cs ++ es) (ds ++ fs) i j
 
 -- Fewer than 2,000 moments happen in a row, so settling ends.
@@ -465,7 +480,7 @@ LimitPausesAre = (end : ℕ) (u : Setup) (es : Story) → Allowed end u es
 
 -- After an accepted setup and any calls, any two limit pauses of one stock start at least d apart; d is 315,000.
 abbrev pub PausesApart : ℕ → Type 0
-PausesApart d = (end : ℕ) (us : List Setup) → Accepted end us → (cs : Calls machine) (i : ℕ) → i < length us
+PausesApart d = (end : ℕ) (us : List Setup) → Accepted end us → (cs : Calls counting) (i : ℕ) → i < length us
     → Apart d (limitPauses (notices (story end us cs i)))
 
 -- For no greater d is this so: a day has two limit pauses that are exactly so far apart.
@@ -482,7 +497,7 @@ NoFewer = (n : ℕ) → DatesFew n → pausesBound ≤ n
 
 -- Hence, after an accepted setup and any calls, one stock never has more than 75 limit pauses in a day.
 abbrev pub PausesFew : Type 0
-PausesFew = (end : ℕ) (us : List Setup) → Accepted end us → (cs : Calls machine) (i : ℕ) → i < length us
+PausesFew = (end : ℕ) (us : List Setup) → Accepted end us → (cs : Calls counting) (i : ℕ) → i < length us
     → length (limitPauses (notices (story end us cs i))) ≤ pausesBound
 
 -- ---------------------------------------------------------------- the first five minutes
@@ -491,6 +506,86 @@ PausesFew = (end : ℕ) (us : List Setup) → Accepted end us → (cs : Calls ma
 abbrev pub OneF : Type 0
 OneF = (end : ℕ) (u : Setup) (es : Story) → Allowed end u es → (time : ℕ) → settles time (leaves end u es) ≡ 14 → 300_000 ≤ time
     → stateOf (leaves end u (before 300_000 es) .stock) ≡ Waiting → countOf mark-f es ≡ 1
+
+-- ---------------------------------------------------------------- day totals (R-4)
+
+-- With wrong totals every call is answered 1, with zeros beside it. Otherwise each call is answered as without totals, and leaves the same stock.
+abbrev pub TotalsAround : Type 0
+TotalsAround = (c : Counted) → let h = c .whole in
+    (Wrong c → ((m : Message) → counted.tells m c ≡ 1 and ShowsNothing (counted.tellAnswer m c))
+    × ((time : ℕ) → counted.settles time c ≡ 1 and ShowsNothing (counted.settleAnswer time c .answer)
+    and counted.settleAnswer time c .mark ≡ 0 and counted.settleAnswer time c .time ≡ 0)
+    × (counted.reads c ≡ 1) × ShowsNothing (counted.readAnswer c) × ShowsNone (counted.nextAnswer c))
+    × (¬ Wrong c → ((m : Message) → (counted.tells m c ≡ tells m h) × (counted.tellAnswer m c ≡ tellAnswer m h) × (counted.afterTelling m c .whole ≡ afterTelling m h))
+    × ((time : ℕ) → (counted.settles time c ≡ settles time h) × (counted.settleAnswer time c ≡ settleAnswer time h)
+    × (counted.afterSettling time c .whole ≡ afterSettling time h))
+    × (counted.reads c ≡ reads h) × (counted.readAnswer c ≡ readAnswer h) × (counted.nextAnswer c ≡ nextAnswer h))
+
+-- The number in each answer of a stock with totals is that of its table.
+abbrev pub TotalsNumbers : Type 0
+TotalsNumbers = (c : Counted)
+    → ((m : Message) → Gives (with-totals.refusals m c) (counted.tellAnswer m c .number))
+    × ((time : ℕ) → Gives (with-totals.settleRefusals time c) (counted.settleAnswer time c .answer .number))
+    × Gives (with-totals.readRefusals c) (counted.readAnswer c .number)
+    × Gives (with-totals.readRefusals c) (counted.nextAnswer c .number)
+    × Gives (with-totals.readRefusals c) (counted.totalsAnswer c .number)
+
+-- A refused call changes no total. Asking for the totals gives the number of reading; with 0 the totals beside it are the stock's, with any other
+-- number every one is 0.
+abbrev pub TotalsKept : Type 0
+TotalsKept = (c : Counted)
+    → ((m : Message) → ¬ (counted.tells m c ≡ 0) → counted.afterTelling m c ≡ c)
+    × ((time : ℕ) → ¬ (counted.settles time c ≡ 0) → counted.afterSettling time c ≡ c)
+    × (let a = counted.totalsAnswer c in
+    (a .number ≡ counted.reads c) × (counted.reads c ≡ 0 → a .totals ≡ c .totals) × (¬ (counted.reads c ≡ 0) → NoTotals (a .totals)))
+
+-- A book of the right shape gives this answer for a stock that it has; any other call gets its number with every total 0.
+abbrev pub BookTotalsAre : Type 0
+BookTotalsAre = (end : ℕ) (b : List Counted) (times prices i : ℕ) → let a = bookTotals end b times prices i in
+    let there = IsShape (length b) times prices and i < length b in
+    (there → a ≡ counted.totalsAnswer (stock counting (blank end) b i)) × (¬ there → NoTotals (a .totals))
+
+-- A setup makes every total 0.
+abbrev pub FreshTotals : Type 0
+FreshTotals = (end : ℕ) (u : Setup) → (counted.fresh end u .whole ≡ fresh end u) × NoTotals (counted.fresh end u .totals)
+
+-- The totals after each event.
+abbrev pub TotalsAre : Type 0
+TotalsAre = (c : Counted) (e : Event Message Notice) → CanHappen (c .whole) e
+    → let c′ = becomes counting c e in (c′ .whole ≡ becomes machine (c .whole) e) × TotalsAfter (c .whole) e (c′ .whole .stock) (c .totals) (c′ .totals)
+
+-- Each of the six times is how many milliseconds of the story the stock was in that state.
+abbrev pub TimesAre : Type 0
+TimesAre = (end : ℕ) (u : Setup) (es : Story) → Allowed end u es
+    → let t = keeps end u es .spent in let h = fresh end u in
+    t .waiting ≡ waitingTime h es and t .trading ≡ tradingTime h es and t .limit ≡ limitTime h es
+    and t .paused ≡ pausedTime h es and t .late ≡ lateTime h es and t .closed ≡ closedTime h es
+
+-- The six add up to the clock.
+abbrev pub TimesAddUp : Type 0
+TimesAddUp = (end : ℕ) (u : Setup) (es : Story) → Allowed end u es
+    → let h = fresh end u in
+    waitingTime h es + tradingTime h es + limitTime h es + pausedTime h es + lateTime h es + closedTime h es ≡ clockOf (leaves end u es .stock)
+
+-- The limit states are the events that enter Limit, also those that leave it and enter it again. The pauses are the P and the x.
+abbrev pub CountsAre : Type 0
+CountsAre = (end : ℕ) (u : Setup) (es : Story) → Allowed end u es
+    → let t = keeps end u es in let h = fresh end u in
+    ((n : ℕ) × Counts EntersLimit h es n × KeptCount n (t .limits))
+    × ((n : ℕ) × Counts (λ h e. StartsPause e) h es n × KeptCount n (t .pauses))
+
+-- Events are counted in one way only.
+abbrev pub OneCount : Type 1
+OneCount = (Such : Whole → Event Message Notice → Type 0) (h : Whole) (es : Story) (n m : ℕ) → Counts Such h es n → Counts Such h es m → n ≡ m
+
+-- The highest and the lowest are those of the story's T.
+abbrev pub PricesAre : Type 0
+PricesAre = (end : ℕ) (u : Setup) (es : Story) → Allowed end u es
+    → let t = keeps end u es in IsHighest (t .highest) (tradePrices es) and IsLowest (t .lowest) (tradePrices es)
+
+-- No call ever makes wrong totals.
+abbrev pub NeverWrong : Type 0
+NeverWrong = (end : ℕ) (u : Setup) (es : Story) → Allowed end u es → ¬ Wrong (record { whole = leaves end u es; totals = keeps end u es })
 
 -- ---------------------------------------------------------------- examples
 
@@ -512,6 +607,18 @@ PausesCounted =
     and pausesOf aStraddle ≡ []
     and pausesOf aLatePause ≡ 3_005_000 ∷ []
     and pausesBy 23_400_000 (listed 2) allDay ≡ evenly 315_000 15_000 74
+
+-- The totals that days leave: document 01's own; a Limit that is begun afresh by the quote that ended another; three limit states, one of them by a w; a
+-- declared pause; a Late pause; several trades; and pauses one after another.
+abbrev pub TotalsCounted : Type 0
+TotalsCounted =
+    totalsOf theDay ≡ 1_000 ∷ 3_000 ∷ 15_000 ∷ 300_000 ∷ 0 ∷ 0 ∷ 1 ∷ 1 ∷ 92_000 ∷ 92_000 ∷ []
+    and totalsOf limitAgain ≡ 100_000 ∷ 350_000 ∷ 18_000 ∷ 0 ∷ 0 ∷ 0 ∷ 2 ∷ 1 ∷ 81_000 ∷ 81_000 ∷ []
+    and totalsOf theLooks ≡ 1_000 ∷ 31_000 ∷ 16_000 ∷ 300_000 ∷ 0 ∷ 0 ∷ 3 ∷ 1 ∷ 117_500 ∷ 117_500 ∷ []
+    and totalsOf offerStraddle ≡ 1_000 ∷ 299_000 ∷ 0 ∷ 600_000 ∷ 0 ∷ 0 ∷ 0 ∷ 1 ∷ 0 ∷ 0 ∷ []
+    and totalsOf aLatePause ≡ 1_000 ∷ 2_989_000 ∷ 15_000 ∷ 0 ∷ 895_000 ∷ 0 ∷ 1 ∷ 1 ∷ 0 ∷ 0 ∷ []
+    and totalsOf theExactMean ≡ 0 ∷ 300_002 ∷ 0 ∷ 0 ∷ 0 ∷ 0 ∷ 0 ∷ 0 ∷ 101_001 ∷ 100_999 ∷ []
+    and totalsOf soonestAgain ≡ 0 ∷ 0 ∷ 45_000 ∷ 900_000 ∷ 0 ∷ 0 ∷ 3 ∷ 4 ∷ 0 ∷ 0 ∷ []
 
 -- Records and calls at the edges of what the rules allow.
 abbrev pub AtEdges : Type 0
@@ -542,7 +649,7 @@ pub record Demands : Type 1 where
   pub others : OthersStay
   pub never-rubbish : NeverRubbish
   pub of-any-machine : OfAnyMachine
-  pub machine-laws : MachineLaws machine
+  pub machine-laws : MachineLaws counting
   pub settled-alike : SettledAlike
   pub journal-is : JournalIs
   pub journals-are : JournalsAre
@@ -579,7 +686,20 @@ pub record Demands : Type 1 where
   pub no-fewer : NoFewer
   pub pauses-few : PausesFew
   pub one-f : OneF
+  pub totals-around : TotalsAround
+  pub totals-numbers : TotalsNumbers
+  pub totals-kept : TotalsKept
+  pub book-totals : BookTotalsAre
+  pub fresh-totals : FreshTotals
+  pub totals-after : TotalsAre
+  pub times : TimesAre
+  pub times-add-up : TimesAddUp
+  pub counts : CountsAre
+  pub one-count : OneCount
+  pub prices : PricesAre
+  pub never-wrong : NeverWrong
   pub by-hand : ByHand
   pub as-printed : AsPrinted
   pub pauses-counted : PausesCounted
+  pub totals-counted : TotalsCounted
   pub at-edges : AtEdges

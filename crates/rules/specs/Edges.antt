@@ -1,7 +1,7 @@
 -- Records and calls at the edges of what the rules allow, with the expected answers (document 01, "Units and ranges", "Moments",
 -- "Numbers given back").
 -- Assumes nothing.
-use Prim.Native.Nat.{ℕ}
+use Prim.Native.Nat.{ℕ, _-_}
 use mathlib.Core.Bool.{Bool, not}
 use mathlib.Core.List.{List, [], _∷_}
 use lib.Dec.{eqb}
@@ -9,16 +9,20 @@ use lib.ListN.{length, set, replicate}
 use Rattle.forms.specs.Choice.{if_then_else_}
 use Rattle.forms.specs.Checks.{first}
 use Rattle.band.specs.Band.{noMean, priceOf}
-use Rattle.rules.specs.Stock.{Waiting, Paused, Late, stateOf, Trade, Whole, Trading}
+use Rattle.rules.specs.Stock.{Waiting, Paused, Late, stateOf, clockOf, Trade, Whole, Trading}
 use Rattle.rules.specs.States.{noQuotes}
 use Rattle.rules.specs.Moments.{mark-z, mark-p, mark-c, mark-h, mark-w, mark-x, mark-v, mark-f}
 use Rattle.rules.specs.Messages.{taken, letter-T, letter-Q, letter-O, letter-P, letter-R, letter-X}
 use Rattle.rules.specs.Numbers.{rubbish, tells, settles, fresh, callChecks, setsUp, answer, setupAnswer, afterTelling, afterSettling, tellAnswer, settleAnswer, nextAnswer}
-use Rattle.rules.specs.Book.{bookTells, bookSettles, bookNext}
-use Rattle.rules.specs.Days.{line, noticed, sameNumbers, listed}
+use Rattle.rules.specs.Totals.{brought}
+use Rattle.rules.specs.Counted as with-totals
+use Rattle.rules.specs.Counted.{Counted, totalsAnswer}
+use Rattle.rules.specs.Book.{bookTells, bookSettles, bookNext, bookTotals}
+use Rattle.rules.specs.Days.{line, noticed, sameNumbers, listed, totalNumbers}
 use Rattle.rules.specs.declared.Setup.{Setup}
 use Rattle.rules.specs.declared.Reference.{Reference}
 use Rattle.rules.specs.declared.Quotes.{Quotes}
+use Rattle.rules.specs.declared.Summary.{Summary}
 use Rattle.rules.specs.declared.Upcoming.{Upcoming}
 use Rattle.rules.specs.declared.Message.{Message}
 use Rattle.rules.specs.declared.Message.the-variants.{Trade as T, Quote as Q, Opening as O, Pause as P, Reopening as R, Closing as X}
@@ -75,6 +79,14 @@ quoted bids offers = sound 1 1_000_000 0 0 0 (referring 100_000 0 0) (record { b
 abbrev limited : Quotes → Whole
 limited quotes = sound 2 1_000_000 0 990_000 0 (referring 100_000 0 0) quotes []
 
+-- the same with a trade, and an offer at the lower band
+abbrev limited-with : Trade → Whole
+limited-with t = sound 2 1_000_000 0 990_000 0 (referring 100_000 0 0) (record { bids = noQuotes .bids; offers = set (noQuotes .offers) 5 90_000 }) (t ∷ [])
+
+-- a new stock with quotes
+abbrev set-up-with : Quotes → Whole
+set-up-with quotes = sound 0 0 1 0 0 (referring 0 0 0) quotes []
+
 -- a Late pause, at the session's end
 abbrev late-at-end : Whole
 late-at-end = sound 4 3_600_000 0 0 3_000_000 (referring 1 0 0) noQuotes []
@@ -94,6 +106,38 @@ at-band r = sound 1 1_000_000 0 0 0 r (record { bids = noQuotes .bids; offers = 
 -- a stock of a setup and a session's end
 abbrev set-up-as : ℕ → Setup → Whole
 set-up-as end u = record { stock = record { setup = u; end = end; course = fresh end u .stock .course; reference = referring 0 0 0; quotes = noQuotes }; window = [] }
+
+-- a stock with the six times and the other four totals
+abbrev totalled : (waiting trading limit paused late closed limits pauses highest lowest : ℕ) → Whole → Counted
+totalled waiting trading limit paused late closed limits pauses highest lowest h = record {
+  whole = h;
+  totals = record {
+    spent = record { waiting = waiting; trading = trading; limit = limit; paused = paused; late = late; closed = closed };
+    limits = limits;
+    pauses = pauses;
+    highest = highest;
+    lowest = lowest;
+  };
+}
+
+-- all its time spent in Waiting
+abbrev counted : Whole → Counted
+counted h = totalled (clockOf (h .stock)) 0 0 0 0 0 0 0 0 0 h
+
+-- time spent in every state, most of it in Waiting, and a highest and a lowest
+abbrev mixed : Whole → Counted
+mixed h = totalled (clockOf (h .stock) - 15) 1 2 3 4 5 7 8 100_100 99_900 h
+
+-- the totals after a message, and after settling
+abbrev totals-told : Message → Counted → List ℕ
+totals-told m c = totalNumbers (with-totals.afterTelling m c .totals)
+
+abbrev totals-settled : ℕ → Counted → List ℕ
+totals-settled time c = totalNumbers (with-totals.afterSettling time c .totals)
+
+-- number and totals, as they are asked for
+abbrev summary : Summary → List ℕ
+summary x = x .number ∷ totalNumbers (x .totals)
 
 -- state, clock, early, entry, pause, the reference's sum, count, start and hold, and how many bids, offers and trades there are
 abbrev numbersOf : Whole → List ℕ
@@ -417,11 +461,11 @@ edges =
     shown (line 0 0 (answer 3 (trading-with (referring 1 990_000 1) [] .stock))) (0 ∷ 0 ∷ 3 ∷ 0 ∷ 0 ∷ 0 ∷ 0 ∷ 0 ∷ 0 ∷ 0 ∷ 0 ∷ []) ∷
     shown (line 0 0 (setupAnswer 1 512 512 0 (listed 1 ∷ []))) (0 ∷ 0 ∷ 2 ∷ 0 ∷ 0 ∷ 0 ∷ 0 ∷ 0 ∷ 0 ∷ 0 ∷ 0 ∷ []) ∷
     shown (line 0 0 (setupAnswer 1 512 512 3_600_000 (listed 1 ∷ []))) (0 ∷ 0 ∷ 0 ∷ 0 ∷ 0 ∷ 0 ∷ 0 ∷ 0 ∷ 0 ∷ 0 ∷ 0 ∷ []) ∷
-    shown (line 0 0 (bookTells 3_600_000 (new-stock ∷ []) 512 512 1 (T 0 1))) (0 ∷ 0 ∷ 3 ∷ 0 ∷ 0 ∷ 0 ∷ 0 ∷ 0 ∷ 0 ∷ 0 ∷ 0 ∷ []) ∷
+    shown (line 0 0 (bookTells 3_600_000 (counted new-stock ∷ []) 512 512 1 (T 0 1))) (0 ∷ 0 ∷ 3 ∷ 0 ∷ 0 ∷ 0 ∷ 0 ∷ 0 ∷ 0 ∷ 0 ∷ 0 ∷ []) ∷
     -- 1 for the shape before 3, and 3 before what the stock would answer
-    shown (line 0 0 (bookTells 3_600_000 (new-stock ∷ []) 511 512 1 (T 0 1))) (0 ∷ 0 ∷ 1 ∷ 0 ∷ 0 ∷ 0 ∷ 0 ∷ 0 ∷ 0 ∷ 0 ∷ 0 ∷ []) ∷
-    shown (line 0 0 (bookTells 3_600_000 (trading-with (referring 0 0 0) [] ∷ []) 512 512 1 (T 0 1))) (0 ∷ 0 ∷ 3 ∷ 0 ∷ 0 ∷ 0 ∷ 0 ∷ 0 ∷ 0 ∷ 0 ∷ 0 ∷ []) ∷
-    shown (noticed (bookSettles 3_600_000 (new-stock ∷ []) 512 512 1 7)) (0 ∷ 0 ∷ 3 ∷ 0 ∷ 0 ∷ 0 ∷ 0 ∷ 0 ∷ 0 ∷ 0 ∷ 0 ∷ []) ∷
+    shown (line 0 0 (bookTells 3_600_000 (counted new-stock ∷ []) 511 512 1 (T 0 1))) (0 ∷ 0 ∷ 1 ∷ 0 ∷ 0 ∷ 0 ∷ 0 ∷ 0 ∷ 0 ∷ 0 ∷ 0 ∷ []) ∷
+    shown (line 0 0 (bookTells 3_600_000 (counted (trading-with (referring 0 0 0) []) ∷ []) 512 512 1 (T 0 1))) (0 ∷ 0 ∷ 3 ∷ 0 ∷ 0 ∷ 0 ∷ 0 ∷ 0 ∷ 0 ∷ 0 ∷ 0 ∷ []) ∷
+    shown (noticed (bookSettles 3_600_000 (counted new-stock ∷ []) 512 512 1 7)) (0 ∷ 0 ∷ 3 ∷ 0 ∷ 0 ∷ 0 ∷ 0 ∷ 0 ∷ 0 ∷ 0 ∷ 0 ∷ []) ∷
     shown (noticed (settleAnswer 3_900_001 (trading-with (referring 100_000 970_000 1) [])))
     (0 ∷ 0 ∷ 4 ∷ 1 ∷ 100_000 ∷ 90_000 ∷ 110_000 ∷ 0 ∷ 0 ∷ 0 ∷ 0 ∷ []) ∷
     -- every other number with what the stock shows: 15, 16 and 13, and 4 in Waiting with a reference
@@ -443,7 +487,60 @@ edges =
     shown (upcoming (nextAnswer (sound 3 1_000_000 0 0 990_000 (referring 1 0 0) noQuotes []))) (0 ∷ mark-p ∷ 1_590_000 ∷ []) ∷
     shown (upcoming (nextAnswer (sound 5 0 1 0 0 (referring 1 0 1) noQuotes (trade 0 1 ∷ [])))) (0 ∷ 0 ∷ 0 ∷ []) ∷
     shown (upcoming (nextAnswer (trading-with (referring 0 990_000 1) []))) (1 ∷ 0 ∷ 0 ∷ []) ∷
-    shown (upcoming (bookNext 3_600_000 (new-stock ∷ []) 512 512 0)) (0 ∷ mark-f ∷ 300_000 ∷ []) ∷
-    shown (upcoming (bookNext 3_600_000 (new-stock ∷ []) 511 512 1)) (1 ∷ 0 ∷ 0 ∷ []) ∷
-    shown (upcoming (bookNext 3_600_000 (new-stock ∷ []) 512 512 1)) (3 ∷ 0 ∷ 0 ∷ []) ∷
+    shown (upcoming (bookNext 3_600_000 (counted new-stock ∷ []) 512 512 0)) (0 ∷ mark-f ∷ 300_000 ∷ []) ∷
+    shown (upcoming (bookNext 3_600_000 (counted new-stock ∷ []) 511 512 1)) (1 ∷ 0 ∷ 0 ∷ []) ∷
+    shown (upcoming (bookNext 3_600_000 (counted new-stock ∷ []) 512 512 1)) (3 ∷ 0 ∷ 0 ∷ []) ∷
+    -- day totals (R-4). The time since the clock belongs to the state before the event, whatever state is then entered
+    shown (totals-told (T 1_000_010 100_000) (mixed (waiting 1_000_000))) (999_995 ∷ 1 ∷ 2 ∷ 3 ∷ 4 ∷ 5 ∷ 7 ∷ 8 ∷ 100_100 ∷ 99_900 ∷ []) ∷
+    shown (totals-told (Q 1_000_010 5 99_000 0) (mixed plain)) (999_985 ∷ 11 ∷ 2 ∷ 3 ∷ 4 ∷ 5 ∷ 7 ∷ 8 ∷ 100_100 ∷ 99_900 ∷ []) ∷
+    shown (totals-settled 1_005_000 (mixed (limited noQuotes))) (999_985 ∷ 1 ∷ 5_002 ∷ 3 ∷ 4 ∷ 5 ∷ 7 ∷ 9 ∷ 100_100 ∷ 99_900 ∷ []) ∷
+    shown (totals-told (R 1_290_000 2 200_000) (mixed (sound 3 1_000_000 0 0 990_000 (referring 1 0 0) noQuotes [])))
+    (999_985 ∷ 1 ∷ 2 ∷ 290_003 ∷ 4 ∷ 5 ∷ 7 ∷ 8 ∷ 100_100 ∷ 99_900 ∷ []) ∷
+    shown (totals-told (X 3_600_010 2 200_000) (mixed late-at-end)) (3_599_985 ∷ 1 ∷ 2 ∷ 3 ∷ 14 ∷ 5 ∷ 7 ∷ 8 ∷ 100_100 ∷ 99_900 ∷ []) ∷
+    shown (totalNumbers (brought 0 (sound 5 10 0 0 0 (referring 0 0 0) noQuotes [] .stock) (sound 5 30 0 0 0 (referring 0 0 0) noQuotes [] .stock) (mixed plain .totals)))
+    (999_985 ∷ 1 ∷ 2 ∷ 3 ∷ 4 ∷ 25 ∷ 7 ∷ 8 ∷ 100_100 ∷ 99_900 ∷ []) ∷
+    -- an opening is no trade, and may begin a Limit at once; so may a quote, and one that ends a Limit and begins another
+    shown (totals-told (O 1_000 2 200_000) (counted new-stock)) (1_000 ∷ 0 ∷ 0 ∷ 0 ∷ 0 ∷ 0 ∷ 0 ∷ 0 ∷ 0 ∷ 0 ∷ []) ∷
+    shown (totals-told (O 1_000 2 100_000) (counted (set-up-with (record { bids = noQuotes .bids; offers = set (noQuotes .offers) 5 80_000 }))))
+    (1_000 ∷ 0 ∷ 0 ∷ 0 ∷ 0 ∷ 0 ∷ 1 ∷ 0 ∷ 0 ∷ 0 ∷ []) ∷
+    shown (totals-told (Q 1_000_000 5 110_000 0) (mixed plain)) (999_985 ∷ 1 ∷ 2 ∷ 3 ∷ 4 ∷ 5 ∷ 8 ∷ 8 ∷ 100_100 ∷ 99_900 ∷ []) ∷
+    shown (totals-told (Q 1_000_000 6 0 0) (mixed (limited (record { bids = noQuotes .bids; offers = set (noQuotes .offers) 5 90_000 }))))
+    (999_985 ∷ 1 ∷ 2 ∷ 3 ∷ 4 ∷ 5 ∷ 7 ∷ 8 ∷ 100_100 ∷ 99_900 ∷ []) ∷
+    shown (totals-told (Q 1_000_000 5 0 72_900) (mixed (limited-with (trade 995_000 81_000)))) (999_985 ∷ 1 ∷ 2 ∷ 3 ∷ 4 ∷ 5 ∷ 8 ∷ 8 ∷ 100_100 ∷ 99_900 ∷ []) ∷
+    shown (totals-told (Q 1_000_000 5 0 75_000) (mixed (limited-with (trade 995_000 81_000)))) (999_985 ∷ 1 ∷ 2 ∷ 3 ∷ 4 ∷ 5 ∷ 7 ∷ 8 ∷ 100_100 ∷ 99_900 ∷ []) ∷
+    -- pauses by x and by P, of both kinds
+    shown (totals-settled 3_000_000 (mixed (sound 2 2_985_000 0 2_985_000 0 (referring 1 0 0) noQuotes []))) (2_984_985 ∷ 1 ∷ 15_002 ∷ 3 ∷ 4 ∷ 5 ∷ 7 ∷ 9 ∷ 100_100 ∷ 99_900 ∷ []) ∷
+    shown (totals-told (P 2_999_999 2) (mixed (straddled 2_990_000))) (2_989_985 ∷ 10_000 ∷ 2 ∷ 3 ∷ 4 ∷ 5 ∷ 7 ∷ 9 ∷ 100_100 ∷ 99_900 ∷ []) ∷
+    shown (totals-told (P 3_000_000 2) (mixed (straddled 2_990_000))) (2_989_985 ∷ 10_001 ∷ 2 ∷ 3 ∷ 4 ∷ 5 ∷ 7 ∷ 9 ∷ 100_100 ∷ 99_900 ∷ []) ∷
+    -- the highest and the lowest T: the first of a day, a higher and a lower one; also where one of them was 0 alone, or the lowest was the greater
+    shown (totals-told (T 1_000_000 100_000) (counted plain)) (1_000_000 ∷ 0 ∷ 0 ∷ 0 ∷ 0 ∷ 0 ∷ 0 ∷ 0 ∷ 100_000 ∷ 100_000 ∷ []) ∷
+    shown (totals-told (T 1_000_000 100_101) (mixed plain)) (999_985 ∷ 1 ∷ 2 ∷ 3 ∷ 4 ∷ 5 ∷ 7 ∷ 8 ∷ 100_101 ∷ 99_900 ∷ []) ∷
+    shown (totals-told (T 1_000_000 99_899) (mixed plain)) (999_985 ∷ 1 ∷ 2 ∷ 3 ∷ 4 ∷ 5 ∷ 7 ∷ 8 ∷ 100_100 ∷ 99_899 ∷ []) ∷
+    shown (totals-told (T 1_000_000 100_000) (totalled 1_000_000 0 0 0 0 0 0 0 100_100 0 plain)) (1_000_000 ∷ 0 ∷ 0 ∷ 0 ∷ 0 ∷ 0 ∷ 0 ∷ 0 ∷ 100_100 ∷ 100_000 ∷ []) ∷
+    shown (totals-told (T 1_000_000 100_000) (totalled 1_000_000 0 0 0 0 0 0 0 99_900 100_100 plain)) (1_000_000 ∷ 0 ∷ 0 ∷ 0 ∷ 0 ∷ 0 ∷ 0 ∷ 0 ∷ 100_000 ∷ 100_000 ∷ []) ∷
+    -- a refused T (12), a message before the clock (5) and settling with nothing due (14) change none
+    shown (totals-told (T 1_000_010 110_001) (mixed plain)) (999_985 ∷ 1 ∷ 2 ∷ 3 ∷ 4 ∷ 5 ∷ 7 ∷ 8 ∷ 100_100 ∷ 99_900 ∷ []) ∷
+    shown (totals-told (T 999_999 100_000) (counted plain)) (1_000_000 ∷ 0 ∷ 0 ∷ 0 ∷ 0 ∷ 0 ∷ 0 ∷ 0 ∷ 0 ∷ 0 ∷ []) ∷
+    shown (totals-settled 1_010_000 (mixed plain)) (999_985 ∷ 1 ∷ 2 ∷ 3 ∷ 4 ∷ 5 ∷ 7 ∷ 8 ∷ 100_100 ∷ 99_900 ∷ []) ∷
+    -- the counts stop at 4,294,967,295
+    shown (totals-told (Q 1_000_000 5 110_000 0) (totalled 1_000_000 0 0 0 0 0 4_294_967_294 0 0 0 plain)) (1_000_000 ∷ 0 ∷ 0 ∷ 0 ∷ 0 ∷ 0 ∷ 4_294_967_295 ∷ 0 ∷ 0 ∷ 0 ∷ []) ∷
+    shown (totals-told (Q 1_000_000 5 110_000 0) (totalled 1_000_000 0 0 0 0 0 4_294_967_295 0 0 0 plain)) (1_000_000 ∷ 0 ∷ 0 ∷ 0 ∷ 0 ∷ 0 ∷ 4_294_967_295 ∷ 0 ∷ 0 ∷ 0 ∷ []) ∷
+    shown (totals-settled 1_005_000 (totalled 1_000_000 0 0 0 0 0 0 4_294_967_295 0 0 (limited noQuotes))) (1_000_000 ∷ 0 ∷ 5_000 ∷ 0 ∷ 0 ∷ 0 ∷ 0 ∷ 4_294_967_295 ∷ 0 ∷ 0 ∷ []) ∷
+    -- wrong totals: six times that are one off the clock or would be the clock if the sum wrapped, and a highest or a lowest over the range
+    shown (summary (totalsAnswer (totalled 100_000 200_000 300_000 200_000 150_000 50_001 1 2 999_999_999 999_999_999 plain)))
+    (1 ∷ 0 ∷ 0 ∷ 0 ∷ 0 ∷ 0 ∷ 0 ∷ 0 ∷ 0 ∷ 0 ∷ 0 ∷ []) ∷
+    shown (summary (totalsAnswer (totalled 100_000 200_000 300_000 200_000 150_000 50_000 4_294_967_295 4_294_967_295 999_999_999 999_999_999 plain)))
+    (0 ∷ 100_000 ∷ 200_000 ∷ 300_000 ∷ 200_000 ∷ 150_000 ∷ 50_000 ∷ 4_294_967_295 ∷ 4_294_967_295 ∷ 999_999_999 ∷ 999_999_999 ∷ []) ∷
+    shown (with-totals.reads (totalled 999_999 0 0 0 0 0 0 0 0 0 plain) ∷ with-totals.reads (totalled 999_999 0 0 0 0 1 0 0 0 0 plain) ∷ with-totals.reads (totalled 999_999 0 0 0 1 1 0 0 0 0 plain) ∷ [])
+    (1 ∷ 0 ∷ 1 ∷ []) ∷
+    shown (with-totals.reads (totalled 4_294_967_295 1_000_001 0 0 0 0 0 0 0 0 plain) ∷ with-totals.tells (T 1_000_000 0) (totalled 0 0 4_294_967_295 0 0 1_000_001 0 0 0 0 plain) ∷ []) (1 ∷ 1 ∷ []) ∷
+    shown (with-totals.reads (totalled 1_000_000 0 0 0 0 0 0 0 1_000_000_000 0 plain) ∷ with-totals.settles 1_000_000 (totalled 1_000_000 0 0 0 0 0 0 0 0 1_000_000_000 plain) ∷ []) (1 ∷ 1 ∷ []) ∷
+    shown (with-totals.reads (totalled 1_000_000 0 0 0 0 0 0 0 0 999_999_999 plain) ∷ with-totals.reads (totalled 1_000_000 0 0 0 0 0 0 0 1 2 plain) ∷ []) (0 ∷ 0 ∷ []) ∷
+    -- 1 for wrong totals with zeros beside it, and asking a book: 1 for the shape, 3, 1 for rubbish
+    shown (line 0 0 (with-totals.tellAnswer (Q 1_000_000 5 99_000 0) (totalled 0 0 0 0 0 0 0 0 0 0 plain))) (0 ∷ 0 ∷ 1 ∷ 0 ∷ 0 ∷ 0 ∷ 0 ∷ 0 ∷ 0 ∷ 0 ∷ 0 ∷ []) ∷
+    shown (upcoming (with-totals.nextAnswer (totalled 0 0 0 0 0 0 0 0 0 0 plain))) (1 ∷ 0 ∷ 0 ∷ []) ∷
+    shown (summary (bookTotals 3_600_000 (mixed plain ∷ []) 512 512 0)) (0 ∷ 999_985 ∷ 1 ∷ 2 ∷ 3 ∷ 4 ∷ 5 ∷ 7 ∷ 8 ∷ 100_100 ∷ 99_900 ∷ []) ∷
+    shown (summary (bookTotals 3_600_000 (mixed plain ∷ []) 511 512 1)) (1 ∷ 0 ∷ 0 ∷ 0 ∷ 0 ∷ 0 ∷ 0 ∷ 0 ∷ 0 ∷ 0 ∷ 0 ∷ []) ∷
+    shown (summary (bookTotals 3_600_000 (mixed plain ∷ []) 512 512 1)) (3 ∷ 0 ∷ 0 ∷ 0 ∷ 0 ∷ 0 ∷ 0 ∷ 0 ∷ 0 ∷ 0 ∷ 0 ∷ []) ∷
+    shown (summary (bookTotals 3_600_000 (mixed (trading-with (referring 0 990_000 1) []) ∷ []) 512 512 0)) (1 ∷ 0 ∷ 0 ∷ 0 ∷ 0 ∷ 0 ∷ 0 ∷ 0 ∷ 0 ∷ 0 ∷ 0 ∷ []) ∷
     []

@@ -1,6 +1,7 @@
 pub mod Demands
 pub mod Words
 pub mod Changes
+pub mod TotalsWords
 pub mod Stock
 pub mod Quotes
 pub mod States
@@ -8,6 +9,8 @@ pub mod Moments
 pub mod Messages
 pub mod Numbers
 pub mod Machine
+pub mod Totals
+pub mod Counted
 pub mod Book
 pub mod Readings
 pub mod Pauses

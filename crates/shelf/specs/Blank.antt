@@ -14,6 +14,13 @@ blankRecord = record {
     quotes = record { bids = replicate 16 0; offers = replicate 16 0 };
   };
   count = 0;
+  totals = record {
+    spent = record { waiting = 0; trading = 0; limit = 0; paused = 0; late = 0; closed = 0 };
+    limits = 0;
+    pauses = 0;
+    highest = 0;
+    lowest = 0;
+  };
 }
 
 -- the promise of `blank`: eight such records

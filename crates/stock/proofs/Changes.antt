@@ -31,7 +31,8 @@ use Rattle.window.proofs.Window.{length-trades, figures-snoc, total-most, rest-
 use Rattle.states.specs.After.{fit, effectOf, afterOf}
 use Rattle.states.specs.declared.After.{After}
 use Rattle.states.proofs.Laws as states
-use Rattle.stock.specs.Steps.{changeOf, changeAt, Held, withTrade, Changed, holding, Makes}
+use Rattle.stock.specs.View.{holding}
+use Rattle.stock.specs.Steps.{changeOf, changeAt, Held, withTrade, Changed, Makes}
 
 -- ------------------------------------------------------------------ the window once it is changed
 
@@ -139,7 +140,7 @@ module _ (n : Kept) (q : Quotes) (f g : Figures) (ts ps : List ℕ) (change : Ch
   s = stockOf n q
 
   abbrev h : Whole
-  h = holding s f ts ps
+  h = holding s (f .count) ts ps
 
   -- there is room for the reference, so the stock is taken as it is
   as-it-is : stockOf (fitted n) q ≡ s

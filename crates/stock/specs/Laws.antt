@@ -8,14 +8,16 @@ use mathlib.Core.Path.{_≡_}
 use lib.ListN.{length, getD}
 use Rattle.forms.specs.Promises.{Determines}
 use Rattle.forms.specs.Words.{_and_}
-use Rattle.rules.specs.Stock.{Trade, Whole}
-use Rattle.rules.specs.Numbers.{zeros, noNotice, afterTelling, afterSettling, tellAnswer, settleAnswer, readAnswer, noneComing, nextAnswer}
+use Rattle.rules.specs.Stock.{Trade}
+use Rattle.rules.specs.Numbers.{zeros, noNotice, noneComing}
+use Rattle.rules.specs.Counted.{Counted, afterTelling, afterSettling, tellAnswer, settleAnswer, readAnswer, nextAnswer, noSummary, totalsAnswer}
 use Rattle.rules.specs.Words.{ShowsNothing}
 use Rattle.rules.specs.declared.Answer.{Answer}
 use Rattle.rules.specs.declared.Message.{Message}
 use Rattle.rules.specs.declared.Notice.{Notice}
+use Rattle.rules.specs.declared.Summary.{Summary}
 use Rattle.rules.specs.declared.Upcoming.{Upcoming}
-use Rattle.stock.specs.View.{Bytes, bytes, view, lay, shaped, Tells, Settles, reading, coming}
+use Rattle.stock.specs.View.{Bytes, bytes, view, lay, shaped, Tells, Settles, reading, coming, totalling}
 use Rattle.stock.specs.declared.Record.{Record}
 use Rattle.stock.specs.declared.Told.{Told}
 use Rattle.stock.specs.declared.Settled.{Settled}
@@ -39,14 +41,15 @@ BytesAre = (kept : Record) (times prices : List ℕ) → let b = bytes kept time
 abbrev pub ShapedIs : Type 0
 ShapedIs = (b : Bytes) → (shaped b ≡ true) ↔ (length (b .times) ≡ 512 and length (b .prices) ≡ 512)
 
--- `view` reads the record's stock, with as many trades as it counts, each from its place of both parts
+-- `view` reads the record's stock and totals, with as many trades as it counts, each from its place of both parts
 abbrev pub ViewIs : Type 0
-ViewIs = (b : Bytes) → (view b .stock ≡ b .kept .stock) × (length (view b .window) ≡ b .kept .count)
-    × ((j : ℕ) (d : Trade) → j < b .kept .count → getD (view b .window) j d ≡ record { at = getD (b .times) j 0; price = getD (b .prices) j 0 })
+ViewIs = (b : Bytes) → (view b .whole .stock ≡ b .kept .stock) × (length (view b .whole .window) ≡ b .kept .count)
+    × ((j : ℕ) (d : Trade) → j < b .kept .count → getD (view b .whole .window) j d ≡ record { at = getD (b .times) j 0; price = getD (b .prices) j 0 })
+    × (view b .totals ≡ b .kept .totals)
 
 -- `view` reads back what `lay` wrote, whatever the places held before
 abbrev pub ReadBack : Type 0
-ReadBack = (h : Whole) (b : Bytes) → view (lay h b) ≡ h
+ReadBack = (h : Counted) (b : Bytes) → view (lay h b) ≡ h
 
 -- with parts of 512 places the answer is the rules', and the new bytes mean what the rules make of the stock that the old bytes meant
 abbrev pub ToldByTheRules : Type 0
@@ -72,6 +75,10 @@ ReadByTheRules = (b : Bytes) → (shaped b ≡ true → reading b ≡ readAnswer
 -- asking what comes next gives the rules' answer with parts of 512 places, and 1 with no moment with other parts
 abbrev pub NextByTheRules : Type 0
 NextByTheRules = (b : Bytes) → (shaped b ≡ true → coming b ≡ nextAnswer (view b)) × (shaped b ≡ false → coming b ≡ noneComing 1)
+
+-- asking for the totals gives the rules' answer with parts of 512 places, and 1 with every total 0 with other parts
+abbrev pub TotalsByTheRules : Type 0
+TotalsByTheRules = (b : Bytes) → (shaped b ≡ true → totalling b ≡ totalsAnswer (view b)) × (shaped b ≡ false → totalling b ≡ noSummary 1)
 
 -- a call that is not answered 0 changes no byte
 abbrev pub ToldRefused : Type 0
@@ -114,6 +121,7 @@ pub record Laws : Type 0 where
   pub settled-one : SettledOne
   pub read-by-the-rules : ReadByTheRules
   pub next-by-the-rules : NextByTheRules
+  pub totals-by-the-rules : TotalsByTheRules
   pub told-refused : ToldRefused
   pub settled-refused : SettledRefused
   pub told-in-shape : ToldInShape
@@ -125,7 +133,9 @@ pub record Laws : Type 0 where
   pub zeros-determined : (number : ℕ) → Determines (λ (x : Answer). x ≡ zeros number)
   pub zero-notice-determined : (number : ℕ) → Determines (λ (x : Notice). x ≡ noNotice number)
   pub none-coming-determined : (number : ℕ) → Determines (λ (x : Upcoming). x ≡ noneComing number)
+  pub no-summary-determined : (number : ℕ) → Determines (λ (x : Summary). x ≡ noSummary number)
   pub tell-determined : (m : Message) (b : Bytes) → Determines (λ (x : Left Told). Tells m b (x .result) (x .times) (x .prices))
   pub settle-determined : (time : ℕ) (b : Bytes) → Determines (λ (x : Left Settled). Settles time b (x .result) (x .times) (x .prices))
   pub read-determined : (b : Bytes) → Determines (λ (r : Answer). r ≡ reading b)
   pub next-determined : (b : Bytes) → Determines (λ (r : Upcoming). r ≡ coming b)
+  pub summary-determined : (b : Bytes) → Determines (λ (r : Summary). r ≡ totalling b)

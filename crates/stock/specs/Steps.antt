@@ -1,7 +1,7 @@
 -- What the private functions of a call promise each other.
 -- Assumes nothing.
 use Prim.Native.Nat.{ℕ, _+_, _^_, _<_}
-use mathlib.Core.Bool.{true, false, not}
+use mathlib.Core.Bool.{Bool, true, false, not}
 use mathlib.Core.List.{List, [], _∷_}
 use mathlib.Core.Path.{_≡_}
 use lib.Dec.{eqb}
@@ -17,6 +17,7 @@ use Rattle.rules.specs.declared.Message.{Message}
 use Rattle.rules.specs.declared.Message.the-variants.{Trade as T, Quote as Q, Opening as O, Pause as P, Reopening as R, Closing as X}
 use Rattle.rules.specs.declared.Quotes.{Quotes}
 use Rattle.rules.specs.declared.Stock.{Stock}
+use Rattle.rules.specs.declared.Totals.{Totals}
 use Rattle.quotes.specs.Parts.{stockOf, bare}
 use Rattle.quotes.specs.declared.Kept.{Kept}
 use Rattle.quotes.specs.declared.Shown.{Shown}
@@ -25,26 +26,26 @@ use Rattle.states.specs.After.{afterOf}
 use Rattle.window.specs.Places.{trades, whole, goneOf, changed}
 use Rattle.window.specs.declared.Change.{Change}
 use Rattle.window.specs.declared.Change.the-variants.{Stay, Join, Leave, Empty, Start}
-use Rattle.stock.specs.View.{Bytes, view, shaped}
+use Rattle.stock.specs.View.{inShape, holding}
 use Rattle.stock.specs.declared.Record.{Record}
 use Rattle.stock.specs.declared.sight.Sight.{Sight}
 use Rattle.stock.specs.declared.steps.Step.{Step}
 
--- the record of the stock with these parts, and with so many held trades
-abbrev pub recordOf : Kept → Quotes → ℕ → Record
-recordOf k q count = record { stock = stockOf k q; count = count }
+-- the record of the stock with these parts, so many held trades and these totals
+abbrev pub recordOf : Kept → Quotes → ℕ → Totals → Record
+recordOf k q count t = record { stock = stockOf k q; count = count; totals = t }
 
 -- ------------------------------------------------------------------ what a call sees first
 
--- what a call finds: whether the stock is shaped and no rubbish, and if so its window's figures and its earliest moment
-pub record Seen (b : Bytes) (g : Sight) : Type 0 where
-  pub sound : g .sound ≡ allOf (shaped b ∷ not (rubbish (view b)) ∷ [])
-  pub figures : g .sound ≡ true → g .figures ≡ figuresOf (view b .window)
-  pub earliest : g .sound ≡ true → g .earliest ≡ nextOf (view b)
+-- what a call finds: whether the stock is shaped and no rubbish and its totals are not wrong, and if so its window's figures and its earliest moment
+pub record Seen (wrong : Bool) (s : Stock) (count : ℕ) (times prices : List ℕ) (g : Sight) : Type 0 where
+  pub sound : g .sound ≡ allOf (inShape times prices ∷ not (rubbish (holding s count times prices)) ∷ not wrong ∷ [])
+  pub figures : g .sound ≡ true → g .figures ≡ figuresOf (trades count times prices)
+  pub earliest : g .sound ≡ true → g .earliest ≡ nextOf (holding s count times prices)
 
 -- a message's number from what was seen
-unfoldable pub messageNumber : Message → Sight → Record → ℕ
-messageNumber m g r = if g .sound then first (messageChecks m (r .count) (g .earliest) (r .stock)) else 1
+unfoldable pub messageNumber : Message → Sight → ℕ → Stock → ℕ
+messageNumber m g count s = if g .sound then first (messageChecks m count (g .earliest) s) else 1
 
 -- settling's number from what was seen
 unfoldable pub settleNumber : ℕ → Sight → Stock → ℕ
@@ -96,10 +97,6 @@ withTrade f time price =
 pub record Changed (change : Change) (count : ℕ) (times prices : List ℕ) (f : Figures) : Type 0 where
   pub figures : f ≡ figuresOf (changed change (trades count times prices))
   pub small : states.Fits f
-
--- the stock with the window that has these figures
-abbrev pub holding : Stock → Figures → List ℕ → List ℕ → Whole
-holding s f times prices = record { stock = s; window = trades (f .count) times prices }
 
 -- the step does to a stock what the rules do: it gives the stock with what it shows, its count, and the change of its window
 pub record Makes (rule : Whole → Whole) (h : Whole) (step : Step) : Type 0 where

@@ -8,12 +8,13 @@ use lib.Dec.{eqb}
 use lib.ListN.{length}
 use Rattle.forms.specs.Choice.{if_then_else_, allOf}
 use Rattle.rules.specs.Stock.{Whole}
-use Rattle.rules.specs.Moments.{fire}
-use Rattle.rules.specs.Messages.{after}
-use Rattle.rules.specs.Numbers.{tells, settles, zeros, noNotice, tellAnswer, settleAnswer, readAnswer, noneComing, nextAnswer}
+use Rattle.rules.specs.Numbers.{zeros, noNotice, noneComing}
+use Rattle.rules.specs.Counted.{Counted, tells, settles, after, fire, tellAnswer, settleAnswer, readAnswer, nextAnswer, noSummary, totalsAnswer}
 use Rattle.rules.specs.declared.Answer.{Answer}
 use Rattle.rules.specs.declared.Message.{Message}
 use Rattle.rules.specs.declared.Notice.{Notice}
+use Rattle.rules.specs.declared.Stock.{Stock}
+use Rattle.rules.specs.declared.Summary.{Summary}
 use Rattle.rules.specs.declared.Upcoming.{Upcoming}
 use Rattle.window.specs.Places.{trades, laid}
 use Rattle.stock.specs.declared.Record.{Record}
@@ -31,21 +32,29 @@ pub record Bytes : Type 0 where
 abbrev pub bytes : Record → List ℕ → List ℕ → Bytes
 bytes kept times prices = record { kept = kept; times = times; prices = prices }
 
--- the stock that the bytes mean, with the trades in the first `count` places, the oldest first
-abbrev pub view : Bytes → Whole
-view b = record { stock = b .kept .stock; window = trades (b .kept .count) (b .times) (b .prices) }
+-- a stock with so many trades in the first places, the oldest first
+abbrev pub holding : Stock → ℕ → List ℕ → List ℕ → Whole
+holding s count times prices = record { stock = s; window = trades count times prices }
+
+-- the stock that the bytes mean, with its window and its day totals
+abbrev pub view : Bytes → Counted
+view b = record { whole = holding (b .kept .stock) (b .kept .count) (b .times) (b .prices); totals = b .kept .totals }
 
 -- the bytes b with a stock written over them: the window in front, zeros in freed places, all other places as they were
-abbrev pub lay : Whole → Bytes → Bytes
-lay h b = record {
-  kept = record { stock = h .stock; count = length (h .window) };
-  times = laid (b .kept .count) (map (λ t. t .at) (h .window)) (b .times);
-  prices = laid (b .kept .count) (map (λ t. t .price) (h .window)) (b .prices);
+abbrev pub lay : Counted → Bytes → Bytes
+lay c b = record {
+  kept = record { stock = c .whole .stock; count = length (c .whole .window); totals = c .totals };
+  times = laid (b .kept .count) (map (λ t. t .at) (c .whole .window)) (b .times);
+  prices = laid (b .kept .count) (map (λ t. t .price) (c .whole .window)) (b .prices);
 }
 
+-- two parts of 512 places
+unfoldable pub inShape : List ℕ → List ℕ → Bool
+inShape times prices = allOf (eqb (length times) 512 ∷ eqb (length prices) 512 ∷ [])
+
 -- the stock owns 512 places of each array
-unfoldable pub shaped : Bytes → Bool
-shaped b = allOf (eqb (length (b .times)) 512 ∷ eqb (length (b .prices)) 512 ∷ [])
+abbrev pub shaped : Bytes → Bool
+shaped b = inShape (b .times) (b .prices)
 
 -- ------------------------------------------------------------------ what a call gives and leaves
 
@@ -85,3 +94,7 @@ reading b = if shaped b then readAnswer (view b) else zeros 1
 -- asking what comes next: parts without 512 places get 1 with no moment, others get the rules' answer
 unfoldable pub coming : Bytes → Upcoming
 coming b = if shaped b then nextAnswer (view b) else noneComing 1
+
+-- asking for the day totals: parts without 512 places get 1 with every total 0, others get the rules' answer
+unfoldable pub totalling : Bytes → Summary
+totalling b = if shaped b then totalsAnswer (view b) else noSummary 1

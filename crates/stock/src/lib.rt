@@ -4,7 +4,8 @@
 // and every place.
 ghost use mathlib.Core.Path.{_≡_};
 ghost use Rattle.rules.specs.Numbers.{zeros, noNotice, noneComing};
-ghost use Rattle.stock.specs.View.{bytes, Tells, Settles, reading, coming};
+ghost use Rattle.rules.specs.Counted.{noSummary};
+ghost use Rattle.stock.specs.View.{bytes, Tells, Settles, reading, coming, totalling};
 use rules::Answer;
 use rules::Best;
 use rules::DONE;
@@ -14,7 +15,10 @@ use rules::Message;
 use rules::Notice;
 use rules::RUBBISH;
 use rules::Side;
+use rules::StateTimes;
 use rules::Stock;
+use rules::Summary;
+use rules::Totals;
 use rules::Upcoming;
 
 mod answers;
@@ -22,12 +26,13 @@ mod parts;
 mod sight;
 mod steps;
 
-// A stock's record: the stock, and how many trades its places hold. The count has 64 bits, so that there is no
-// padding behind it.
+// A stock's record: the stock, how many trades its places hold, and its day totals. The count has 64 bits, so that
+// there is no padding behind it.
 #[repr(C)]
 pub struct Record {
     pub stock: Stock,
     pub count: u64,
+    pub totals: Totals,
 }
 
 // A message's answer, with the next record.
@@ -82,6 +87,28 @@ pub fn none_coming(number: u32) -> Upcoming
     }
 }
 
+// A number with every total 0.
+pub fn no_summary(number: u32) -> Summary
+    ensures { λ x. ⌜ x ≡ noSummary number ⌝ }
+{
+    let spent = StateTimes {
+        waiting: 0,
+        trading: 0,
+        limit: 0,
+        paused: 0,
+        late: 0,
+        closed: 0,
+    };
+    let totals = Totals {
+        spent,
+        limits: 0,
+        pauses: 0,
+        highest: 0,
+        lowest: 0,
+    };
+    Summary { number, totals }
+}
+
 impl Record {
     // Tells the stock a message.
     pub fn tell(self, times: &mut [u32], prices: &mut [u32], message: Message) -> Told
@@ -90,7 +117,8 @@ impl Record {
         let s = self.stock;
         let q = s.quotes;
         let k = parts::kept_of(s);
-        let seen = sight::see(self.count, k, q, times, prices);
+        let wrong = totals::is_wrong(self.totals, k.course.clock);
+        let seen = sight::see(wrong, self.count, k, q, times, prices);
         let number = sight::message_number(message, seen, self.count, k, q);
         if number == DONE {
             let figures = seen.figures;
@@ -101,7 +129,9 @@ impl Record {
             let shown = step.after.shown;
             window::write(times, prices, self.count, change);
             let answer = answers::with_shown(DONE, kept, shown);
-            let next = parts::record_of(kept, quotes, step.count);
+            let price = totals::traded(message);
+            let brought = totals::brought(self.totals, price, k, kept);
+            let next = parts::record_of(kept, quotes, step.count, brought);
             return Told { answer, next };
         }
         let answer = answers::answer_of(number, k, q);
@@ -115,7 +145,8 @@ impl Record {
         let s = self.stock;
         let q = s.quotes;
         let k = parts::kept_of(s);
-        let seen = sight::see(self.count, k, q, times, prices);
+        let wrong = totals::is_wrong(self.totals, k.course.clock);
+        let seen = sight::see(wrong, self.count, k, q, times, prices);
         let number = sight::settle_number(time, seen, k);
         if number == DONE {
             let moment = seen.earliest;
@@ -132,7 +163,8 @@ impl Record {
                 mark: moment.mark,
                 time: steps::own_time(moment, time),
             };
-            let next = parts::record_of(kept, quotes, step.count);
+            let brought = totals::brought(self.totals, 0, k, kept);
+            let next = parts::record_of(kept, quotes, step.count, brought);
             return Settled { notice, next };
         }
         let answer = answers::answer_of(number, k, q);
@@ -147,7 +179,8 @@ impl Record {
         let s = self.stock;
         let q = s.quotes;
         let k = parts::kept_of(s);
-        let seen = sight::see(self.count, k, q, times, prices);
+        let wrong = totals::is_wrong(self.totals, k.course.clock);
+        let seen = sight::see(wrong, self.count, k, q, times, prices);
         let sound = seen.sound;
         if sound {
             return answers::answer_of(DONE, k, q);
@@ -162,7 +195,8 @@ impl Record {
         let s = self.stock;
         let q = s.quotes;
         let k = parts::kept_of(s);
-        let seen = sight::see(self.count, k, q, times, prices);
+        let wrong = totals::is_wrong(self.totals, k.course.clock);
+        let seen = sight::see(wrong, self.count, k, q, times, prices);
         let sound = seen.sound;
         if sound {
             let earliest = seen.earliest;
@@ -173,5 +207,24 @@ impl Record {
             };
         }
         none_coming(RUBBISH)
+    }
+    // Gives the stock's day totals; nothing is changed.
+    pub fn summary(self, times: &[u32], prices: &[u32]) -> Summary
+        ensures { λ r. ⌜ r ≡ totalling (bytes self (now (times .entry)) (now (prices .entry))) ⌝ }
+    {
+        let s = self.stock;
+        let q = s.quotes;
+        let k = parts::kept_of(s);
+        let wrong = totals::is_wrong(self.totals, k.course.clock);
+        let seen = sight::see(wrong, self.count, k, q, times, prices);
+        let sound = seen.sound;
+        if sound {
+            let totals = self.totals;
+            return Summary {
+                number: DONE,
+                totals,
+            };
+        }
+        no_summary(RUBBISH)
     }
 }

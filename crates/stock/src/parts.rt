@@ -6,6 +6,7 @@ use crate::Record;
 use quotes::Kept;
 use rules::Quotes;
 use rules::Stock;
+use rules::Totals;
 
 // The stock without its quotes.
 pub(crate) fn kept_of(s: Stock) -> Kept
@@ -22,9 +23,9 @@ pub(crate) fn kept_of(s: Stock) -> Kept
     }
 }
 
-// The record of the stock with these parts, and with `count` held trades.
-pub(crate) fn record_of(k: Kept, quotes: Quotes, count: u64) -> Record
-    ensures { λ r. ⌜ r ≡ recordOf k quotes count ⌝ }
+// The record of the stock with these parts, with `count` held trades and these totals.
+pub(crate) fn record_of(k: Kept, quotes: Quotes, count: u64, totals: Totals) -> Record
+    ensures { λ r. ⌜ r ≡ recordOf k quotes count totals ⌝ }
 {
     let setup = k.setup;
     let course = k.course;
@@ -36,5 +37,9 @@ pub(crate) fn record_of(k: Kept, quotes: Quotes, count: u64) -> Record
         reference,
         quotes,
     };
-    Record { stock, count }
+    Record {
+        stock,
+        count,
+        totals,
+    }
 }

@@ -4,7 +4,8 @@ ghost use Prim.Native.Nat.{_*_, _≤_};
 ghost use Rattle.rules.specs.Moments.{come};
 ghost use Rattle.rules.specs.Messages.{after};
 ghost use Rattle.quotes.specs.Parts.{stockOf, Room};
-ghost use Rattle.stock.specs.Steps.{changeOf, changeAt, Held, withTrade, Changed, holding, Makes};
+ghost use Rattle.stock.specs.View.{holding};
+ghost use Rattle.stock.specs.Steps.{changeOf, changeAt, Held, withTrade, Changed, Makes};
 use quotes::Kept;
 use rules::Figures;
 use rules::MARK_C;
@@ -108,7 +109,7 @@ pub(crate) fn after_message(
     q: Quotes,
 ) -> Step
     requires { ⌜ Held f (now times) (now prices) × Room k ⌝ }
-    ensures { λ r. ⌜ Makes (after m) (holding (stockOf k q) f (now (times .entry)) (now (prices .entry))) r ⌝ }
+    ensures { λ r. ⌜ Makes (after m) (holding (stockOf k q) (f .count) (now (times .entry)) (now (prices .entry))) r ⌝ }
 {
     let change = change_of(m);
     let g = figures_after(change, f, times, prices);
@@ -140,7 +141,7 @@ pub(crate) fn after_moment(
     q: Quotes,
 ) -> Step
     requires { ⌜ Held f (now times) (now prices) × Room k × (m .time ≤ by) ⌝ }
-    ensures { λ r. ⌜ Makes (come m) (holding (stockOf k q) f (now (times .entry)) (now (prices .entry))) r ⌝ }
+    ensures { λ r. ⌜ Makes (come m) (holding (stockOf k q) (f .count) (now (times .entry)) (now (prices .entry))) r ⌝ }
 {
     let time = own_time(m, by);
     let change = change_at(m.mark, time, f.count, times);

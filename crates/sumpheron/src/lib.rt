@@ -3,11 +3,12 @@
 // for any bytes the promise gives the answer and every byte that the call leaves.
 ghost use mathlib.Core.Path.{_≡_};
 ghost use Rattle.rules.specs.declared.Message.the-variants.{Trade, Quote, Opening, Pause, Reopening, Closing};
-ghost use Rattle.book.specs.Lent.{lent, TellsIn, SettlesIn, readingIn, comingIn};
+ghost use Rattle.book.specs.Lent.{lent, TellsIn, SettlesIn, readingIn, comingIn, totallingIn};
 ghost use Rattle.book.specs.Setup.{SetsUp};
 ghost use Rattle.sumpheron.specs.Version.{version};
 use rules::Answer;
 use rules::Notice;
+use rules::Summary;
 use rules::Upcoming;
 use stock::Record;
 
@@ -16,7 +17,7 @@ use stock::Record;
 pub extern "C" fn sumpheron_version() -> u32
     ensures { λ r. ⌜ r ≡ version ⌝ }
 {
-    4
+    5
 }
 
 // Sets up every stock: writes its record from its four numbers of the list (tier, leverage, primary, close), and
@@ -72,6 +73,19 @@ pub extern "C" fn sumpheron_next(
     ensures { λ x. ⌜ x ≡ comingIn stock (lent (now (book .entry)) (now (times .entry)) (now (prices .entry))) ⌝ }
 {
     book::next(book, times, prices, stock)
+}
+
+// Gives a stock's day totals, and changes nothing.
+#[no_mangle]
+pub extern "C" fn sumpheron_totals(
+    book: &[Record],
+    times: &[u32],
+    prices: &[u32],
+    stock: u32,
+) -> Summary
+    ensures { λ x. ⌜ x ≡ totallingIn stock (lent (now (book .entry)) (now (times .entry)) (now (prices .entry))) ⌝ }
+{
+    book::totals(book, times, prices, stock)
 }
 
 // T: an eligible trade.

@@ -1,9 +1,10 @@
 //! The calls of the C interface: how each is checked and done on the bytes.
 
-use second::{read, settle, tell, Answer, Message, Notice, Setup, Stock};
+use second::{read, settle, tell, Answer, Letter, Message, Notice, Setup, Stock};
 
 use crate::field::WORDS;
 use crate::record::{self, Part};
+use crate::totals::Totals;
 use crate::PLACES;
 
 /// A setup's list has this many numbers for each stock.
@@ -24,15 +25,18 @@ pub enum Call {
     Settle { stock: u32, time: u32 },
     Read { stock: u32 },
     Next { stock: u32 },
+    Totals { stock: u32 },
     Tell(Message),
 }
 
-/// What a call returns. Mark and time are 0 if no moment was done, or none is to come. For `next`, only the number of the answer is set.
+/// What a call returns. Mark and time are 0 if no moment was done, or none is to come. Only `Totals` gives totals; others give zeros. For
+/// `Next` and `Totals`, only the number of the answer is set.
 #[derive(Clone, Copy, Debug, Default, PartialEq, Eq)]
 pub struct Given {
     pub answer: Answer,
     pub mark: u32,
     pub time: u32,
+    pub totals: Totals,
 }
 
 /// Plays one call. A call with a number other than 0 changes no byte.
@@ -43,19 +47,12 @@ pub fn play(lent: &mut Lent, call: &Call) -> Given {
     match *call {
         Call::Setup { end, ref setups } => set_up(lent, end, setups),
         Call::Settle { stock, time } => {
-            on_stock(lent, stock, |book| noticed(settle(book, 0, time)))
+            on_stock(lent, stock, None, |book| noticed(settle(book, 0, time)))
         }
-        Call::Read { stock } => on_stock(lent, stock, |book| answered(read(book, 0))),
-        Call::Next { stock } => on_stock(lent, stock, |book| next(book)),
-        Call::Tell(message) => on_stock(lent, message.stock, |book| {
-            answered(tell(
-                book,
-                &Message {
-                    stock: 0,
-                    ..message
-                },
-            ))
-        }),
+        Call::Read { stock } => on_stock(lent, stock, None, |book| answered(read(book, 0))),
+        Call::Next { stock } => on_stock(lent, stock, None, |book| next(book)),
+        Call::Totals { stock } => totals(lent, stock),
+        Call::Tell(ref message) => told(lent, message),
     }
 }
 
@@ -84,8 +81,13 @@ fn set_up(lent: &mut Lent, end: u32, numbers: &[u32]) -> Given {
     zeros(0)
 }
 
-/// Reads the stock's bytes, plays the call on the stock, and writes it back if the call was accepted.
-fn on_stock(lent: &mut Lent, stock: u32, judge: impl Fn(&mut [Stock]) -> Given) -> Given {
+/// Reads the stock's bytes, plays the call on the stock, and writes it back if the call was accepted. `trade` is the price of a T.
+fn on_stock(
+    lent: &mut Lent,
+    stock: u32,
+    trade: Option<u32>,
+    judge: impl Fn(&mut [Stock]) -> Given,
+) -> Given {
     let index = stock as usize;
     if index >= lent.records.len() {
         return zeros(3);
@@ -102,9 +104,32 @@ fn on_stock(lent: &mut Lent, stock: u32, judge: impl Fn(&mut [Stock]) -> Given) 
     let mut book = [before.clone()];
     let given = judge(&mut book);
     if given.answer.number == 0 {
-        part.write(&before, &book[0]);
+        part.write(&before, &book[0], trade);
     }
     given
+}
+
+fn told(lent: &mut Lent, message: &Message) -> Given {
+    let trade = (message.letter == Letter::T).then_some(message.price);
+    let alone = Message {
+        stock: 0,
+        ..*message
+    };
+    on_stock(lent, message.stock, trade, |book| {
+        answered(tell(book, &alone))
+    })
+}
+
+/// The stock's totals, with the number that reading the stock answers.
+fn totals(lent: &mut Lent, stock: u32) -> Given {
+    let given = on_stock(lent, stock, None, |book| zeros(read(book, 0).number));
+    match given.answer.number {
+        0 => Given {
+            totals: Totals::of(&lent.records[stock as usize]),
+            ..given
+        },
+        _ => given,
+    }
 }
 
 /// The earliest moment still to come of the only stock in a book, with the number that reading the stock answers.
@@ -125,6 +150,7 @@ fn noticed(notice: Notice) -> Given {
         answer: notice.answer,
         mark: u32::from(notice.mark),
         time: notice.time,
+        ..Given::default()
     }
 }
 

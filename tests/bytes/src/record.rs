@@ -1,8 +1,9 @@
-//! One stock's bytes: its record of 200 bytes and its 512 places of times and of prices.
+//! One stock's bytes: its record of 240 bytes and its 512 places of times and of prices.
 
 use second::{Mean, Setup, Stock, Trade, LIMIT, PARTICIPANTS, TRADING};
 
 use crate::field::*;
+use crate::totals::{Totals, STATES};
 use crate::PLACES;
 
 /// One stock's part of a book.
@@ -13,14 +14,14 @@ pub(crate) struct Part<'a> {
 }
 
 impl Part<'_> {
-    /// The stock that the bytes hold, or none if the record counts more trades than there are places.
+    /// The stock that the bytes hold, or none if the record counts more trades than there are places, or its totals are rubbish.
     pub fn read(&self) -> Option<Stock> {
         let record = &self.record;
         let count = wide(record, COUNT);
-        if count > PLACES as u64 {
+        let clock = record[CLOCK];
+        if count > PLACES as u64 || Totals::of(record).is_rubbish(clock) {
             return None;
         }
-        let clock = record[CLOCK];
         let late_w = record[END].saturating_sub(1_500_000);
         Some(Stock {
             setup: setup(&record[TIER..END]),
@@ -49,8 +50,8 @@ impl Part<'_> {
         held.map(|(&time, &price)| Trade { time, price }).collect()
     }
 
-    /// Writes the stock's bytes after an accepted call.
-    pub fn write(&mut self, before: &Stock, after: &Stock) {
+    /// Writes the stock's bytes after an accepted call. `trade` is the price of a T.
+    pub fn write(&mut self, before: &Stock, after: &Stock, trade: Option<u32>) {
         let record = &mut self.record;
         record[STATE] = after.state;
         record[CLOCK] = after.clock;
@@ -66,6 +67,8 @@ impl Part<'_> {
         record[BIDS..OFFERS].copy_from_slice(&after.bids);
         record[OFFERS..COUNT].copy_from_slice(&after.offers);
         set_wide(record, COUNT, after.trades.len() as u64);
+        let totals = Totals::of(record).after(before, after, trade);
+        record[SPENT..].copy_from_slice(&totals.numbers());
         self.write_trades(before.trades.len(), &after.trades);
     }
 
@@ -118,16 +121,23 @@ fn hold(stood: u32, before: &Stock, after: &Stock) -> u32 {
 /// Whether a call wrote the reference's start, if the hold had not ended before the call.
 ///
 /// In Trading only h and its Test write it, 30,000 after the old start. In Limit, leaving Limit
-/// writes it; if Limit begins again in the same call, its entry or the reference differs, since the
-/// same entry and reference (sum and count) give the same bands. In the other states, every change
-/// to Trading or Limit writes it.
+/// writes it. In the other states, every change to Trading or Limit writes it.
 fn starts_anew(before: &Stock, after: &Stock) -> bool {
-    let kept = |stock: &Stock| (stock.state, stock.limit_entry, stock.reference);
     match before.state {
         TRADING => after.reference_start != before.reference_start,
-        _ => matches!(after.state, TRADING | LIMIT) && kept(after) != kept(before),
+        _ => matches!(after.state, TRADING | LIMIT) && !keeps(before, after),
     }
 }
 
+/// Whether a call kept state, entry and reference, as every call does that stays in Limit.
+///
+/// If a call ends Limit and begins it again, the entry or the reference differs, since the same
+/// entry and reference (sum and count) give the same bands.
+pub(crate) fn keeps(before: &Stock, after: &Stock) -> bool {
+    let kept = |stock: &Stock| (stock.state, stock.limit_entry, stock.reference);
+    kept(after) == kept(before)
+}
+
 const _: () = assert!(OFFERS == BIDS + PARTICIPANTS && COUNT == OFFERS + PARTICIPANTS);
-const _: () = assert!(WORDS == COUNT + 2);
+const _: () = assert!(SPENT == COUNT + 2 && LIMIT_STATES == SPENT + STATES);
+const _: () = assert!(WORDS == LOWEST_TRADE + 1);

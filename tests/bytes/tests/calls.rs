@@ -149,6 +149,7 @@ fn the_day_of_document_01() {
     record[OFFERS + 5] = 115_100;
     record[OFFERS + 7] = 92_000;
     record[COUNT] = 1;
+    record[SPENT..].copy_from_slice(&[1_000, 3_000, 15_000, 300_000, 0, 0, 1, 1, 92_000, 92_000]);
     let mut after = Book::filled(1, 0);
     after.records[0] = record;
     after.times[0] = 319_000;
@@ -253,6 +254,15 @@ fn odd() -> Book {
     book.times[3..].fill(6);
     book.prices[3..].fill(5);
     book
+}
+
+/// Puts a number into a word of stock 0's record. The six times go with the clock, as if all of it had been spent in Waiting.
+fn put(book: &mut Book, word: usize, number: u32) {
+    let record = &mut book.records[0];
+    record[word] = number;
+    if word == CLOCK {
+        record[SPENT..LIMIT_STATES].copy_from_slice(&[number, 0, 0, 0, 0, 0]);
+    }
 }
 
 #[test]
@@ -431,9 +441,9 @@ fn rubbish_is_refused() {
         (COUNT + 1, u32::MAX),
     ] {
         let mut book = odd();
-        book.records[0][word] = number;
+        put(&mut book, word, number);
         if word == START {
-            book.records[0][CLOCK] = 30_001;
+            put(&mut book, CLOCK, 30_001);
         }
         let before = book.clone();
         let given = book.play(&Call::Read { stock: 0 });
@@ -457,7 +467,7 @@ fn what_is_not_rubbish_is_taken() {
         (COUNT, 0),
     ] {
         let mut book = odd();
-        book.records[0][word] = number;
+        put(&mut book, word, number);
         let given = book.play(&Call::Read { stock: 0 });
         assert_eq!(given.answer.number, 0, "{} {number}", name(word));
     }

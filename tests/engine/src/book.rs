@@ -114,18 +114,18 @@ impl Book {
         assert!(shape.times <= room.times && shape.prices <= room.prices);
         let named = named(call).filter(|&stock| stock < shape.stocks);
         let before = named.map(|stock| (stock, *self.record(stock)));
+        let kept = is_read_only(call).then(|| self.library.clone());
         let expected = play(&mut self.reader.lent(shape), call);
         // SAFETY: the three vectors do not overlap, the records are aligned, and each is at least as long as the shape says.
         let given = unsafe { library::play(self.library.arrays(shape), call) };
         let good_shape = shape.stocks > 0 && shape == Shape::right(shape.stocks);
         tally.count(call, &expected, good_shape);
-        if let (0, Some((stock, before))) = (expected.answer.number, &before) {
-            tally
-                .exact
-                .count(&self.step(call, &expected, *stock, before));
+        if let Some((stock, before)) = &before {
+            tally.count_step(&self.step(call, &expected, *stock, before));
         }
         let numbers = library::numbers(&expected);
-        if given != numbers || self.library != self.reader {
+        let is_written = kept.is_some_and(|kept| kept != self.library);
+        if given != numbers || self.library != self.reader || is_written {
             report::print(call, &numbers, &given);
             report::print_words(&self.reader, &self.library);
             self.library = self.reader.clone();
@@ -134,7 +134,7 @@ impl Book {
         expected
     }
 
-    /// What an accepted call did to this stock.
+    /// What a call did to this stock.
     fn step<'a>(
         &'a self,
         call: &'a Call,
@@ -148,7 +148,7 @@ impl Book {
             answer: given.answer,
             before,
             after,
-            held: &self.places(stock).1[..wide(after, COUNT) as usize],
+            held: &self.places(stock).1[..wide(after, COUNT).min(PLACES as u64) as usize],
         }
     }
 
@@ -187,10 +187,19 @@ impl Book {
 fn named(call: &Call) -> Option<usize> {
     let stock = match *call {
         Call::Setup { .. } => return None,
-        Call::Settle { stock, .. } | Call::Read { stock } | Call::Next { stock } => stock,
+        Call::Settle { stock, .. } => stock,
+        Call::Read { stock } | Call::Next { stock } | Call::Totals { stock } => stock,
         Call::Tell(message) => message.stock,
     };
     Some(stock as usize)
+}
+
+/// Whether a call may change no byte, whatever it answers.
+fn is_read_only(call: &Call) -> bool {
+    matches!(
+        call,
+        Call::Read { .. } | Call::Next { .. } | Call::Totals { .. }
+    )
 }
 
 const _: () = assert!(size_of::<raw::Record>() == 4 * WORDS);

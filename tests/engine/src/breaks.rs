@@ -8,7 +8,7 @@ use crate::book::Snapshot;
 use crate::chance::Chance;
 use crate::exact::{reference, set_reference};
 use crate::prices::HIGHEST;
-use crate::setups;
+use crate::{setups, totals};
 
 /// Numbers at the end of some field's range, or just past it.
 const EDGES: [u32; 27] = [
@@ -89,10 +89,10 @@ const LEADS: [u32; 5] = [0, 15_000, 30_000, 300_000, 600_000];
 
 /// Numbers to put into this word of a record.
 pub fn numbers(record: &[u32; WORDS], word: usize) -> Vec<u32> {
-    let mut numbers = if (BIDS..COUNT).contains(&word) {
-        vec![0, 1, HIGHEST - 1, HIGHEST, HIGHEST + 1, u32::MAX]
-    } else {
-        edges(record)
+    let mut numbers = match word {
+        BIDS..COUNT => vec![0, 1, HIGHEST - 1, HIGHEST, HIGHEST + 1, u32::MAX],
+        SPENT.. => totals::numbers(record, word),
+        _ => edges(record),
     };
     numbers.retain(|&number| number != record[word]);
     numbers
@@ -140,23 +140,31 @@ fn beside(number: u32) -> [u32; 3] {
     [number.wrapping_sub(1), number, number.wrapping_add(1)]
 }
 
-/// Puts another number into one field. All quotes together are chosen as often as one other field.
+/// Puts another number into one field, or others into the reference or the totals. All quotes together are chosen as often as one other
+/// field.
 pub fn break_field(chance: &mut Chance, snapshot: &mut Snapshot) {
-    match chance.place(BIDS + 4) {
-        BIDS => {
+    let place = chance.place(BIDS + 7);
+    match place.checked_sub(BIDS) {
+        None => break_word(chance, snapshot, place),
+        Some(0) => {
             let quote = BIDS + chance.place(COUNT - BIDS);
             break_word(chance, snapshot, quote);
         }
-        place if place == BIDS + 1 => {
+        Some(1) => {
             let half = COUNT + chance.place(2);
             break_word(chance, snapshot, half);
         }
-        place if place == BIDS + 2 => {
+        Some(2) => {
             let field = chance.pick(&WIDE);
             break_wide(chance, snapshot, field);
         }
-        place if place > BIDS + 2 => set_reference(&mut snapshot.record, some_reference(chance)),
-        word => break_word(chance, snapshot, word),
+        Some(3) => set_reference(&mut snapshot.record, some_reference(chance)),
+        Some(4) => {
+            let total = SPENT + chance.place(WORDS - SPENT);
+            break_word(chance, snapshot, total);
+        }
+        Some(5) => totals::make_up(chance, &mut snapshot.record),
+        Some(_) => totals::break_times(chance, &mut snapshot.record),
     }
 }
 
@@ -169,9 +177,12 @@ fn break_word(chance: &mut Chance, snapshot: &mut Snapshot, word: usize) {
     }
 }
 
-/// Puts a number of the rules' edges into this word.
+/// Puts a number of the rules' edges into this word. If it is the clock, the six times mostly go with it, so that other rules decide.
 pub fn break_narrow(chance: &mut Chance, snapshot: &mut Snapshot, word: usize) {
     snapshot.record[word] = chance.pick(&numbers(&snapshot.record, word));
+    if word == CLOCK && !chance.one_in(4) {
+        totals::spread(chance, &mut snapshot.record);
+    }
 }
 
 /// Puts a number of the rules' edges into this field of 64 bits.
@@ -248,6 +259,7 @@ pub fn made_up(chance: &mut Chance) -> Snapshot {
     for quote in &mut record[BIDS..COUNT] {
         *quote = chance.below(200_000) * u32::from(chance.one_in(seldom));
     }
+    totals::make_up(chance, record);
     make_up_trades(chance, &mut made);
     made
 }
@@ -260,7 +272,7 @@ pub fn odd_limit(chance: &mut Chance) -> Snapshot {
     set_reference(record, some_reference(chance));
     record[START] = record[CLOCK];
     record[HOLD] = 2;
-    record[BIDS..].fill(0);
+    record[BIDS..SPENT].fill(0);
     odd
 }
 
@@ -273,6 +285,7 @@ pub fn tied(chance: &mut Chance) -> (Snapshot, u32) {
     let targets = [300_000, 900_000, end - 1_500_000, end, end + 300_000, any];
     let target = chance.pick(&targets);
     record[CLOCK] = target.saturating_sub(chance.below(10_000));
+    totals::spread(chance, record);
     set_reference(record, some_reference(chance));
     for (field, lead) in [(ENTRY, 15_000), (PAUSE, 600_000), (START, 30_000)] {
         let early = chance.below(4) / 3;

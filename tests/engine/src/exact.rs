@@ -25,7 +25,7 @@ pub fn read_without_trades(mut record: [u32; WORDS]) -> Answer {
     bytes::play(&mut lent, &Call::Read { stock: 0 }).answer
 }
 
-/// A stock's record before and after an accepted call, and the prices that it holds after it.
+/// A stock's record before and after a call, and the prices that it holds after it.
 pub struct Step<'a> {
     pub call: &'a Call,
     pub answer: Answer,

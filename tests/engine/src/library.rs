@@ -45,6 +45,7 @@ pub unsafe fn play(a: Arrays, call: &Call) -> Numbers {
         }
         Call::Read { stock } => answered(lend!(sumpheron_read, a, stock)),
         Call::Next { stock } => upcoming(lend!(sumpheron_next, a, stock)),
+        Call::Totals { stock } => summed(lend!(sumpheron_totals, a, stock)),
         Call::Tell(ref message) => answered(tell(a, message)),
     }
 }
@@ -61,13 +62,13 @@ unsafe fn tell(a: Arrays, m: &Message) -> raw::Answer {
     }
 }
 
-/// The result of a call, number by number: the answer's nine, then the moment's mark and time.
-pub type Numbers = [u32; 11];
+/// The result of a call, number by number: the answer's nine, then the moment's mark and time, then the ten totals.
+pub type Numbers = [u32; 21];
 
 /// The result of the byte reader, in the same order.
 pub fn numbers(given: &Given) -> Numbers {
     let a = &given.answer;
-    [
+    let answer = [
         a.number,
         a.state,
         a.reference,
@@ -77,22 +78,48 @@ pub fn numbers(given: &Given) -> Numbers {
         a.bid_flag,
         a.offer,
         a.offer_flag,
-        given.mark,
-        given.time,
-    ]
+    ];
+    joined(answer, [given.mark, given.time], given.totals.numbers())
 }
 
-fn noticed(answer: raw::Answer, mark: u32, time: u32) -> Numbers {
-    let mut numbers = [0; 11];
-    numbers[..9].copy_from_slice(&answer.numbers());
-    numbers[9..].copy_from_slice(&[mark, time]);
+fn joined(answer: [u32; 9], moment: [u32; 2], totals: [u32; 10]) -> Numbers {
+    let mut numbers = [0; 21];
+    numbers[..9].copy_from_slice(&answer);
+    numbers[9..11].copy_from_slice(&moment);
+    numbers[11..].copy_from_slice(&totals);
     numbers
 }
 
+fn noticed(answer: raw::Answer, mark: u32, time: u32) -> Numbers {
+    joined(answer.numbers(), [mark, time], [0; 10])
+}
+
 fn upcoming(u: raw::Upcoming) -> Numbers {
-    [u.number, 0, 0, 0, 0, 0, 0, 0, 0, u.mark, u.time]
+    joined(alone(u.number), [u.mark, u.time], [0; 10])
+}
+
+fn summed(summary: raw::Summary) -> Numbers {
+    let t = summary.totals;
+    let totals = [
+        t.spent.waiting,
+        t.spent.trading,
+        t.spent.limit,
+        t.spent.paused,
+        t.spent.late_pause,
+        t.spent.closed,
+        t.limit_states,
+        t.pauses,
+        t.highest,
+        t.lowest,
+    ];
+    joined(alone(summary.number), [0; 2], totals)
 }
 
 fn answered(answer: raw::Answer) -> Numbers {
     noticed(answer, 0, 0)
+}
+
+/// An answer of this number and zeros.
+fn alone(number: u32) -> [u32; 9] {
+    [number, 0, 0, 0, 0, 0, 0, 0, 0]
 }

@@ -6,6 +6,7 @@ mod arguments;
 mod book;
 mod breaks;
 mod chance;
+mod counted;
 mod exact;
 mod library;
 mod player;
@@ -17,6 +18,7 @@ mod setups;
 mod shapes;
 mod tally;
 mod times;
+mod totals;
 
 use std::process::ExitCode;
 
@@ -34,10 +36,11 @@ pub struct Run {
 /// A kind of book, and the function that plays it.
 type Part = (&'static str, fn(&mut Run));
 
-/// The kinds of book, in the order of play. The last two start from records that the earlier ones reached.
-const PARTS: [Part; 4] = [
+/// The kinds of book, in the order of play. The last three start from records that the earlier ones reached.
+const PARTS: [Part; 5] = [
     ("shapes", shapes::all),
     ("reachable", player::all),
+    ("made-totals", totals::all),
     ("arguments", arguments::all),
     ("rubbish", rubbish::all),
 ];

@@ -9,7 +9,7 @@ use crate::exact::{read_without_trades, reference, set_reference};
 use crate::prices::{self, Sight};
 use crate::{setups, times, Run};
 
-const BOOKS: usize = 2_000;
+const BOOKS: usize = 2_060;
 
 /// The messages to choose from in each state.
 const LETTERS: [&[u8]; 6] = [
@@ -102,6 +102,14 @@ impl<'a> Player<'a> {
         self.book.play(&mut self.run.tally, &call);
     }
 
+    /// Asks for the totals. The result has no stock's values, so the last answer is kept.
+    pub fn totals(&mut self, stock: usize) {
+        let call = Call::Totals {
+            stock: stock as u32,
+        };
+        self.book.play(&mut self.run.tally, &call);
+    }
+
     pub fn settle_once(&mut self, stock: usize, time: u32) -> Given {
         let call = Call::Settle {
             stock: stock as u32,
@@ -137,13 +145,15 @@ impl<'a> Player<'a> {
 
     /// Makes a few calls on the stock, for one event.
     pub fn step(&mut self, stock: usize) {
-        match self.run.chance.below(1_200) {
+        match self.run.chance.below(1_300) {
             0 => self.burst(stock),
             1..=60 => self.read(stock),
             61..=90 => self.pause_late(stock),
             91..=150 => self.force_limit(stock),
             151..=190 => self.force_pause(stock),
             191..=250 => self.open_late(stock),
+            251..=310 => self.totals(stock),
+            311..=350 => self.open_limited(stock),
             _ => self.message(stock),
         }
     }
@@ -200,17 +210,24 @@ impl<'a> Player<'a> {
             reference: reference(record),
             count,
             sum: held.iter().map(|&price| u64::from(price)).sum(),
+            extremes: [record[HIGHEST_TRADE], record[LOWEST_TRADE]],
         }
     }
 
     /// What the stock would answer if the window's mean were the reference from now on.
     fn foresee(&self, stock: usize, sight: &Sight) -> Answer {
+        match sight.count {
+            0 => self.foresee_with(stock, sight.reference),
+            count => self.foresee_with(stock, (sight.sum, count)),
+        }
+    }
+
+    /// What the stock would answer in Trading with this reference.
+    fn foresee_with(&self, stock: usize, reference: (u64, u64)) -> Answer {
         let mut record = *self.book.record(stock);
         record[STATE] = TRADING;
         record[HOLD] = 0;
-        if sight.count > 0 {
-            set_reference(&mut record, (sight.sum, sight.count));
-        }
+        set_reference(&mut record, reference);
         read_without_trades(record)
     }
 
@@ -225,6 +242,20 @@ impl<'a> Player<'a> {
             offer: sides.1,
         };
         self.play(stock, &Call::Tell(message));
+    }
+
+    /// Tells a message from the primary, or a trade.
+    fn price(&mut self, stock: usize, letter: Letter, time: u32, price: u32) -> Given {
+        let message = Message {
+            letter,
+            stock: stock as u32,
+            time,
+            participant: self.book.record(stock)[PRIMARY],
+            price,
+            bid: 0,
+            offer: 0,
+        };
+        self.play(stock, &Call::Tell(message))
     }
 
     /// Takes away every quote.
@@ -251,6 +282,19 @@ impl<'a> Player<'a> {
         let sides = [(upper, 0), (0, lower), (upper, upper), (lower, lower)];
         let sides = self.run.chance.pick(&sides);
         let participant = self.run.chance.below(16);
+        self.quote(stock, time, participant, sides);
+        if self.run.chance.one_in(2) {
+            self.limit_afresh(stock, time, participant);
+        }
+    }
+
+    /// Ends Limit, now or a little later, by a quote at a band that then follows, so that Limit begins afresh where the bands differ.
+    fn limit_afresh(&mut self, stock: usize, time: u32, participant: u32) {
+        let later = time.saturating_add(self.run.chance.below(15_000));
+        let time = self.run.chance.pick(&[time, later]);
+        self.settle_all(stock, time);
+        let Answer { lower, upper, .. } = self.foresee(stock, &self.sight(stock));
+        let sides = self.run.chance.pick(&[(upper, 0), (0, lower)]);
         self.quote(stock, time, participant, sides);
     }
 
@@ -302,6 +346,22 @@ impl<'a> Player<'a> {
         self.tell(stock, Letter::O, time);
     }
 
+    /// Opens a stock that waits, or trades in it, at the close, while a quote stands at a band of that reference.
+    fn open_limited(&mut self, stock: usize) {
+        let time = self.time(stock);
+        if self.last[stock].state != WAITING {
+            return self.message(stock);
+        }
+        self.settle_all(stock, time);
+        self.clear(stock, time);
+        let close = self.book.record(stock)[CLOSE];
+        let Answer { lower, upper, .. } = self.foresee_with(stock, (close.into(), 1));
+        let sides = self.run.chance.pick(&[(upper, 0), (0, lower)]);
+        self.quote(stock, time, 3, sides);
+        let letter = self.run.chance.pick(&[Letter::O, Letter::T]);
+        self.price(stock, letter, time, close);
+    }
+
     /// Trades until no place is left, close together or over almost five minutes.
     fn burst(&mut self, stock: usize) {
         let spread = self.run.chance.pick(&[1, 2, 500, 1_100]);
@@ -313,16 +373,7 @@ impl<'a> Player<'a> {
                 0 => sight.close,
                 reference => self.run.chance.about(reference),
             };
-            let message = Message {
-                letter: Letter::T,
-                stock: stock as u32,
-                time,
-                participant: 0,
-                price,
-                bid: 0,
-                offer: 0,
-            };
-            match self.play(stock, &Call::Tell(message)).answer.number {
+            match self.price(stock, Letter::T, time, price).answer.number {
                 6 => self.settle_all(stock, time),
                 7 | 11 => return,
                 _ => {}

@@ -6,7 +6,7 @@ use crate::chance::Chance;
 
 pub const HIGHEST: u32 = 999_999_999;
 
-/// What the choice of a price depends on: the stock's last answer, its close, its reference and its window.
+/// What the choice of a price depends on: the stock's last answer, its close, its reference, its window and its trades of the day.
 pub struct Sight {
     pub answer: Answer,
     pub close: u32,
@@ -15,6 +15,8 @@ pub struct Sight {
     /// How many trades are held, and the sum of their prices.
     pub count: u64,
     pub sum: u64,
+    /// The highest and the lowest trade of the day, which may be rubbish.
+    pub extremes: [u32; 2],
 }
 
 /// A price for T, O or R.
@@ -22,6 +24,10 @@ pub fn price(chance: &mut Chance, sight: &Sight) -> u32 {
     let answer = &sight.answer;
     if chance.one_in(24) {
         return extreme(chance);
+    }
+    if chance.one_in(12) {
+        let extreme = chance.pick(&sight.extremes);
+        return chance.about(extreme);
     }
     if answer.upper == 0 {
         return without_bands(chance, sight);

@@ -8,13 +8,13 @@ use crate::book::{Book, Snapshot};
 use crate::breaks;
 use crate::exact::set_reference;
 use crate::player::Player;
-use crate::Run;
+use crate::{totals, Run};
 
 /// How many records of each state are broken number by number, and in each pair of numbers.
 const RECORDS: usize = 8;
-const BROKEN_FIELDS: usize = 50_000;
+const BROKEN_FIELDS: usize = 60_000;
 const BROKEN_PLACES: usize = 24_000;
-const MADE_UP: usize = 50_000;
+const MADE_UP: usize = 60_000;
 const ODD_LIMITS: usize = 5_000;
 const TIED: usize = 26_000;
 const ANY_BYTES: usize = 2_000;
@@ -26,6 +26,7 @@ pub fn all(run: &mut Run) {
         number_by_number(run, &snapshot);
         pair_by_pair(run, &snapshot);
         reference_by_reference(run, &snapshot);
+        totals_by_totals(run, &snapshot);
     }
     broken(run);
     made_up(run);
@@ -126,11 +127,30 @@ fn reference_by_reference(run: &mut Run, good: &Snapshot) {
     }
 }
 
+/// The totals at and past the edges of their ranges, and the clock with six times that go with it.
+fn totals_by_totals(run: &mut Run, good: &Snapshot) {
+    let mut book = Book::new(1);
+    book.put(0, good);
+    let mut player = Player::new(&mut book, run);
+    let mut broken = good.clone();
+    for record in totals::edges(&good.record) {
+        broken.record = record;
+        try_all(&mut player, 0, &broken);
+    }
+    broken.record = good.record;
+    for clock in breaks::numbers(&good.record, CLOCK) {
+        broken.record[CLOCK] = clock;
+        totals::spread(&mut player.run.chance, &mut broken.record);
+        try_all(&mut player, 0, &broken);
+    }
+}
+
 /// Makes every kind of call but setup on this record.
 fn try_all(player: &mut Player, stock: usize, broken: &Snapshot) {
     player.book.put(stock, broken);
     player.read(stock);
     player.next(stock);
+    player.totals(stock);
     let time = player.time(stock);
     if player.settle_once(stock, time).answer.number == 0 {
         player.book.put(stock, broken);

@@ -83,6 +83,7 @@ fn every_call(run: &mut Run, book: &mut Book, shape: Shape) {
         };
         play(Call::Read { stock });
         play(Call::Next { stock });
+        play(Call::Totals { stock });
         play(Call::Settle { stock, time });
         for letter in Letter::ALL {
             play(Call::Tell(Message {

@@ -2,17 +2,19 @@
 
 use bytes::{Call, Given};
 
-use crate::exact::{Exact, ROUNDED, WRITTEN};
+use crate::counted::Counted;
+use crate::exact::{Exact, Step, ROUNDED, WRITTEN};
 
 /// The kinds of call, in the order of the table's rows.
-const KINDS: [&str; 10] = [
-    "setup", "settle", "read", "next", "T", "Q", "O", "P", "R", "X",
+const KINDS: [&str; 11] = [
+    "setup", "settle", "read", "next", "totals", "T", "Q", "O", "P", "R", "X",
 ];
 
 /// The numbers that the rules can give for each kind of call.
-const POSSIBLE: [&[usize]; 10] = [
+const POSSIBLE: [&[usize]; 11] = [
     &[0, 1, 2],
     &[0, 1, 3, 4, 14],
+    &[0, 1, 3],
     &[0, 1, 3],
     &[0, 1, 3],
     &[0, 1, 3, 4, 5, 6, 7, 11, 12, 13],
@@ -31,9 +33,9 @@ const DIFFERENCES_AT_MOST: u64 = 10;
 #[derive(Default)]
 pub struct Tally {
     /// A row per kind of call, a column per number.
-    table: [[u64; NUMBERS]; 10],
+    table: [[u64; NUMBERS]; 11],
     /// A row per kind of book, in the order in which they are played, a column per kind of call.
-    parts: Vec<(&'static str, [u64; 10])>,
+    parts: Vec<(&'static str, [u64; 11])>,
     /// How many answers had each state.
     states: [u64; 6],
     /// The moments that were done, and those that `next` announced.
@@ -41,7 +43,8 @@ pub struct Tally {
     coming: [u64; 8],
     /// Calls answered 1 though the arrays had the right lengths.
     rubbish: u64,
-    pub exact: Exact,
+    exact: Exact,
+    totals: Counted,
     differences: u64,
 }
 
@@ -51,7 +54,8 @@ fn row(call: &Call) -> usize {
         Call::Settle { .. } => 1,
         Call::Read { .. } => 2,
         Call::Next { .. } => 3,
-        Call::Tell(message) => 4 + message.letter as usize,
+        Call::Totals { .. } => 4,
+        Call::Tell(message) => 5 + message.letter as usize,
     }
 }
 
@@ -66,7 +70,7 @@ fn print_row<T: std::fmt::Display>(name: &str, cells: &[T]) {
 impl Tally {
     /// Counts the following calls under this kind of book.
     pub fn begin(&mut self, part: &'static str) {
-        self.parts.push((part, [0; 10]));
+        self.parts.push((part, [0; 11]));
     }
 
     pub fn count(&mut self, call: &Call, given: &Given, good_shape: bool) {
@@ -77,7 +81,8 @@ impl Tally {
         }
         let is_setup = matches!(call, Call::Setup { .. });
         let is_next = matches!(call, Call::Next { .. });
-        if !is_setup && !is_next && !matches!(number, 1..=3) {
+        let has_values = !is_setup && !is_next && !matches!(call, Call::Totals { .. });
+        if has_values && !matches!(number, 1..=3) {
             self.states[given.answer.state as usize] += 1;
         }
         if !is_setup && number == 1 && good_shape {
@@ -91,6 +96,14 @@ impl Tally {
         for (count, &mark) in marks.iter_mut().zip(MARKS) {
             *count += u64::from(given.mark == u32::from(mark));
         }
+    }
+
+    /// Counts what a call did to the stock that it names.
+    pub fn count_step(&mut self, step: &Step) {
+        if step.answer.number == 0 {
+            self.exact.count(step);
+        }
+        self.totals.count(step);
     }
 
     /// Counts a difference, and stops the test after a few of them.
@@ -140,6 +153,10 @@ impl Tally {
         print_row("references", &self.exact.written);
         print_row(" rounded", &ROUNDED);
         print_row("exact", &self.exact.rounded);
+        for row in self.totals.rows() {
+            print_row(" totals", row.titles);
+            print_row(row.name, row.counts);
+        }
     }
 
     /// What should have occurred and did not.
@@ -161,6 +178,11 @@ impl Tally {
         let titles = WRITTEN.iter().chain(&ROUNDED);
         for (title, &count) in titles.zip(written.iter().chain(rounded)) {
             missing.extend((count == 0).then(|| format!("reference: {title}")));
+        }
+        for row in self.totals.rows() {
+            let unseen = row.titles.iter().zip(row.counts);
+            let unseen = unseen.filter(|(_, &count)| count == 0);
+            missing.extend(unseen.map(|(title, _)| format!("{}: {title}", row.name)));
         }
         missing
     }

@@ -2,7 +2,7 @@
 
 use std::io::{self, Read, Write};
 
-use crate::lines::{self, Input, Output};
+use crate::lines::{self, Contents, Input, Output};
 use crate::messages::{tell, Message};
 use crate::moments::settle;
 use crate::stock::{setup, Stock};
@@ -34,16 +34,21 @@ fn serve(input: &mut Input<impl Read>, output: &mut Output<impl Write>) -> io::R
 /// Reads the C line and the S lines and sets the book up.
 fn start(input: &mut Input<impl Read>) -> Option<(Vec<Stock>, u32)> {
     let contents = input.next_line().and_then(lines::contents)?;
+    let book = set_up(input, &contents)?;
+    Some((book, contents.messages))
+}
+
+/// Reads the S lines that the C line announces and sets the book up.
+pub(crate) fn set_up(input: &mut Input<impl Read>, contents: &Contents) -> Option<Vec<Stock>> {
     let mut setups = Vec::new();
     for _ in 0..contents.stocks {
         setups.push(input.next_line().and_then(lines::stock)?);
     }
-    let book = setup(&setups, contents.end).ok()?;
-    Some((book, contents.messages))
+    setup(&setups, contents.end).ok()
 }
 
 /// Settles the stock to the message's time, prints each moment, and tells the message.
-fn settle_and_tell(
+pub(crate) fn settle_and_tell(
     book: &mut [Stock],
     m: &Message,
     output: &mut Output<impl Write>,

@@ -3,7 +3,7 @@
 //!
 //! `band` is document 01's "Band arithmetic", `stock` its ranges, quotes, states and rubbish,
 //! `moments` its "Moments", `messages` its "Messages" and "Numbers given back";
-//! `lines` and `day` are its "The day program".
+//! `lines` and `day` are its "The day program". `totals` is the day totals of request R-4.
 
 #![forbid(unsafe_code)]
 
@@ -13,6 +13,7 @@ pub mod lines;
 mod messages;
 mod moments;
 mod stock;
+pub mod totals;
 
 pub use band::{factor, width, Mean, Width};
 pub use messages::{tell, Letter, Message};

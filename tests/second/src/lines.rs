@@ -87,8 +87,13 @@ impl<R: Read> Input<R> {
 
 /// `C stocks messages E`, with 1 to 8 stocks and an E that setup takes.
 pub fn contents(line: &[u8]) -> Option<Contents> {
+    contents_up_to(line, STOCKS_AT_MOST)
+}
+
+/// The same with 1 to so many stocks.
+pub fn contents_up_to(line: &[u8], stocks_at_most: u32) -> Option<Contents> {
     let [stocks, messages, end] = numbers(line.strip_prefix(b"C")?)?;
-    let good = (1..=STOCKS_AT_MOST).contains(&stocks) && end_in_range(end);
+    let good = (1..=stocks_at_most).contains(&stocks) && end_in_range(end);
     good.then_some(Contents {
         stocks,
         messages,
