@@ -8,8 +8,9 @@
 
 mod tape;
 
+use std::env;
+use std::io::{self, Write};
 use std::process::ExitCode;
-use std::{env, io};
 use sumpheron::{Book, Refusal, Totals};
 
 const HEADINGS: [&str; 11] = [
@@ -39,14 +40,16 @@ fn main() -> io::Result<ExitCode> {
     let played = tape::play(&tape::read()?, &mut |_, _, _, _| ());
     let totals = played.map_err(|fault| fault.to_string());
     let totals = totals.and_then(|book| all(&book).map_err(|refusal| refusal.to_string()));
-    Ok(match totals {
-        Ok(totals) if table => print_table(&totals),
-        Ok(totals) => print_lines(&totals),
+    let rows = match totals {
+        Ok(totals) if table => in_columns(&totals),
+        Ok(totals) => plain(&totals),
         Err(fault) => {
             eprintln!("totals: {fault}");
-            ExitCode::FAILURE
+            return Ok(ExitCode::FAILURE);
         }
-    })
+    };
+    io::stdout().write_all((rows.join("\n") + "\n").as_bytes())?;
+    Ok(ExitCode::SUCCESS)
 }
 
 /// The totals of every stock.
@@ -55,30 +58,28 @@ fn all(book: &Book) -> Result<Vec<Totals>, Refusal> {
     stocks.map(|stock| book.totals(stock)).collect()
 }
 
-/// Prints a line for each stock.
-fn print_lines(totals: &[Totals]) -> ExitCode {
+/// A line of numbers for each stock.
+fn plain(totals: &[Totals]) -> Vec<String> {
     let number = |number: u32| number.to_string();
     let price = |price: Option<u32>| number(price.unwrap_or(0));
-    for (stock, totals) in totals.iter().enumerate() {
-        println!("{}", row(stock, totals, number, price).join(" "));
-    }
-    ExitCode::SUCCESS
+    let stocks = totals.iter().enumerate();
+    stocks
+        .map(|(stock, totals)| row(stock, totals, number, price).join(" "))
+        .collect()
 }
 
-/// Prints the table: each column is as wide as its widest cell, and everything is aligned to the right.
-fn print_table(totals: &[Totals]) -> ExitCode {
+/// The lines of the table: each column is as wide as its widest cell, and everything is aligned to the right.
+fn in_columns(totals: &[Totals]) -> Vec<String> {
     let stocks = totals.iter().enumerate();
     let mut rows = vec![HEADINGS.map(str::to_owned)];
     rows.extend(stocks.map(|(stock, totals)| row(stock, totals, clock, dollars)));
     let width = |column: usize| rows.iter().map(|row| row[column].len()).max().unwrap_or(0);
-    for row in &rows {
+    let line = |row: &Row| {
         let cells = row.iter().enumerate();
-        let cells: Vec<_> = cells
-            .map(|(column, cell)| format!("{cell:>0$}", width(column)))
-            .collect();
-        println!("{}", cells.join("  "));
-    }
-    ExitCode::SUCCESS
+        let cells = cells.map(|(column, cell)| format!("{cell:>0$}", width(column)));
+        cells.collect::<Vec<_>>().join("  ")
+    };
+    rows.iter().map(line).collect()
 }
 
 /// The row of a stock, with its times and its prices as the functions write them.

@@ -1,5 +1,5 @@
 -- Records and calls at the edges of what the rules allow, with the expected answers (document 01, "Units and ranges", "Moments",
--- "Numbers given back").
+-- "Numbers given back"; document 02, R-4).
 -- Assumes nothing.
 use Prim.Native.Nat.{ℕ, _-_}
 use mathlib.Core.Bool.{Bool, not}

@@ -2,6 +2,7 @@
 -- Assumes nothing.
 use mathlib.Core.List.{List}
 use lib.ListN.{replicate}
+use Rattle.rules.specs.Totals.{noTotals}
 use Rattle.stock.specs.declared.Record.{Record}
 
 abbrev pub blankRecord : Record
@@ -14,13 +15,7 @@ blankRecord = record {
     quotes = record { bids = replicate 16 0; offers = replicate 16 0 };
   };
   count = 0;
-  totals = record {
-    spent = record { waiting = 0; trading = 0; limit = 0; paused = 0; late = 0; closed = 0 };
-    limits = 0;
-    pauses = 0;
-    highest = 0;
-    lowest = 0;
-  };
+  totals = noTotals;
 }
 
 -- the promise of `blank`: eight such records

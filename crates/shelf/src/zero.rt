@@ -6,9 +6,7 @@ use rules::Course;
 use rules::Quotes;
 use rules::Reference;
 use rules::Setup;
-use rules::StateTimes;
 use rules::Stock;
-use rules::Totals;
 use stock::Record;
 
 // A record of zeros.
@@ -38,14 +36,8 @@ pub(crate) fn record() -> Record
         bids: [0; 16],
         offers: [0; 16],
     };
-    let spent = StateTimes {
-        waiting: 0,
-        trading: 0,
-        limit: 0,
-        paused: 0,
-        late: 0,
-        closed: 0,
-    };
+    let none = stock::no_summary(0);
+    let totals = none.totals;
     Record {
         stock: Stock {
             setup,
@@ -55,12 +47,6 @@ pub(crate) fn record() -> Record
             quotes,
         },
         count: 0,
-        totals: Totals {
-            spent,
-            limits: 0,
-            pauses: 0,
-            highest: 0,
-            lowest: 0,
-        },
+        totals,
     }
 }
