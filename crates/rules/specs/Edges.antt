@@ -536,6 +536,11 @@ edges =
     shown (with-totals.reads (totalled 4_294_967_295 1_000_001 0 0 0 0 0 0 0 0 plain) ∷ with-totals.tells (T 1_000_000 0) (totalled 0 0 4_294_967_295 0 0 1_000_001 0 0 0 0 plain) ∷ []) (1 ∷ 1 ∷ []) ∷
     shown (with-totals.reads (totalled 1_000_000 0 0 0 0 0 0 0 1_000_000_000 0 plain) ∷ with-totals.settles 1_000_000 (totalled 1_000_000 0 0 0 0 0 0 0 0 1_000_000_000 plain) ∷ []) (1 ∷ 1 ∷ []) ∷
     shown (with-totals.reads (totalled 1_000_000 0 0 0 0 0 0 0 0 999_999_999 plain) ∷ with-totals.reads (totalled 1_000_000 0 0 0 0 0 0 0 1 2 plain) ∷ []) (0 ∷ 0 ∷ []) ∷
+    -- in every state, and with a clock of 0
+    shown (with-totals.reads (totalled 0 0 0 0 0 1 0 0 0 0 new-stock) ∷ with-totals.reads (totalled 0 0 0 0 0 0 0 0 0 0 (waiting 1_000_000)) ∷ with-totals.reads (totalled 0 0 0 0 0 0 0 0 0 0 (limited noQuotes)) ∷ with-totals.reads (totalled 0 0 0 0 0 0 0 0 0 0 (sound 3 1_000_000 0 0 990_000 (referring 1 0 0) noQuotes [])) ∷ with-totals.reads (totalled 0 0 0 0 0 0 0 0 0 0 late-at-end) ∷ with-totals.reads (totalled 0 0 0 0 0 0 0 0 0 0 (sound 5 1_000_000 0 0 0 (referring 0 0 0) noQuotes [])) ∷ []) (1 ∷ 1 ∷ 1 ∷ 1 ∷ 1 ∷ 1 ∷ []) ∷
+    shown (with-totals.reads (counted new-stock) ∷ with-totals.reads (counted (waiting 1_000_000)) ∷ with-totals.reads (counted (limited noQuotes)) ∷ with-totals.reads (counted (sound 3 1_000_000 0 0 990_000 (referring 1 0 0) noQuotes [])) ∷ with-totals.reads (counted late-at-end) ∷ with-totals.reads (counted (sound 5 1_000_000 0 0 0 (referring 0 0 0) noQuotes [])) ∷ []) (0 ∷ 0 ∷ 0 ∷ 0 ∷ 0 ∷ 0 ∷ []) ∷
+    -- time in Limit or in a pause with a count of 0 is not wrong
+    shown (with-totals.reads (totalled 0 0 1_000_000 0 0 0 0 0 0 0 plain) ∷ with-totals.reads (totalled 0 0 0 1_000_000 0 0 0 0 0 0 plain) ∷ with-totals.reads (totalled 0 0 0 0 1_000_000 0 0 0 0 0 plain) ∷ []) (0 ∷ 0 ∷ 0 ∷ []) ∷
     -- 1 for wrong totals with zeros beside it, and asking a book: 1 for the shape, 3, 1 for rubbish
     shown (line 0 0 (with-totals.tellAnswer (Q 1_000_000 5 99_000 0) (totalled 0 0 0 0 0 0 0 0 0 0 plain))) (0 ∷ 0 ∷ 1 ∷ 0 ∷ 0 ∷ 0 ∷ 0 ∷ 0 ∷ 0 ∷ 0 ∷ 0 ∷ []) ∷
     shown (upcoming (with-totals.nextAnswer (totalled 0 0 0 0 0 0 0 0 0 0 plain))) (1 ∷ 0 ∷ 0 ∷ []) ∷
