@@ -2,15 +2,15 @@
 
 A *law* is the theorem that proofs/ gives for a field of a record Laws or Demands of the crate's specs/, by itself or applied, as
 `part-put` in `λ i new xs f. part-put i new xs (f .places)`. A theorem is *in words* where its type cites a definition of specs/Words of
-forms, band, rules, calls, book or tape, of Changes or LimitPauses of rules, `Decides`, which ties a test to words, or a definition of proofs/ that does. Local
-definitions of one name in one file count as one.
+forms, band, rules, calls, book or tape, of Changes, LimitPauses or TotalsWords of rules, `Decides`, which ties a test to words, or a definition of
+proofs/ that does. Local definitions of one name in one file count as one.
 """
 import re
 from pathlib import Path
 
 from common import ROOT
 
-WORDS = [f"crates/{file}.antt" for file in ("forms/specs/Words", "band/specs/Words", "rules/specs/Words", "rules/specs/Changes", "rules/specs/LimitPauses", "calls/specs/Words", "book/specs/Words", "tape/specs/Words")]
+WORDS = [f"crates/{file}.antt" for file in ("forms/specs/Words", "band/specs/Words", "rules/specs/Words", "rules/specs/Changes", "rules/specs/LimitPauses", "rules/specs/TotalsWords", "calls/specs/Words", "book/specs/Words", "tape/specs/Words")]
 DECLARED = re.compile(r"^ *(?:(?:abbrev|unfoldable) )?(?:pub )?(record |data )?([^\s(){}:]+)((?: [({][^)}]*[)}])*) :(?: (.*))?$")
 
 

@@ -608,7 +608,7 @@ PausesCounted =
     and pausesOf aLatePause ≡ 3_005_000 ∷ []
     and pausesBy 23_400_000 (listed 2) allDay ≡ evenly 315_000 15_000 74
 
--- The totals that days leave: document 01's own; a Limit that is begun afresh by the quote that ended another; three limit states, one of them by a w; a
+-- The totals that days leave: document 01's own; a Limit that is begun afresh by the quote that ended another; three limit states, begun by O, T and R; a
 -- declared pause; a Late pause; several trades; and pauses one after another.
 abbrev pub TotalsCounted : Type 0
 TotalsCounted =
