@@ -111,6 +111,9 @@ numbers-with c = (
 
 -- ------------------------------------------------------------------ the totals that a call leaves, and reading them
 
+none : NoTotals noTotals
+none = (refl, (refl, (refl, (refl, (refl, (refl, (refl, (refl, (refl, refl)))))))))
+
 pub kept-totals : TotalsKept
 unfolding counted.totalsAnswer
 kept-totals c = (
@@ -122,19 +125,15 @@ kept-totals c = (
     (λ n. rw (if-false (eqb (counted.reads c) 0) (record { number = 0; totals = c .totals }) (noSummary (counted.reads c)) (ne-eqb _ 0 n)) none),
   ),
 )
-  where
-    none : NoTotals noTotals
-    none = (refl, (refl, (refl, (refl, (refl, (refl, (refl, (refl, (refl, refl)))))))))
 
 pub book-totals : BookTotalsAre
 unfolding bookTotals
 book-totals end b times prices i =
     let it = counted.totalsAnswer (stock counting (blank end) b i) in (
       if-there noSummary it (λ a. a .number) (λ n. refl) (length b) times prices i,
-      (λ n. rw (if-not noSummary it (λ a. a .number) (λ n. refl) (length b) times prices i n)
-          (refl, (refl, (refl, (refl, (refl, (refl, (refl, (refl, (refl, refl)))))))))),
+      (λ n. rw (if-not noSummary it (λ a. a .number) (λ n. refl) (length b) times prices i n) none),
     )
 
 pub fresh-totals : FreshTotals
 unfolding counted.fresh
-fresh-totals end u = (refl, (refl, (refl, (refl, (refl, (refl, (refl, (refl, (refl, (refl, refl))))))))))
+fresh-totals end u = (refl, none)

@@ -14,7 +14,7 @@ use Rattle.forms.proofs.Choice.{if-true, if-false}
 use Rattle.forms.proofs.Decides.{Decides, words, is-true, is-false, either-way, by-eq, by-lt, reworded, and-more, all-one, has, not-among, past}
 use Rattle.rules.specs.Stock.{Whole, Waiting, Trading, Limit, Paused, Late, Closed, stateOf, clockOf, with-quotes, figuresOf}
 use Rattle.rules.specs.Quotes.{inForce, kTime, bandsIn, bestOf, flagged}
-use Rattle.rules.specs.Moments.{mark-z, mark-x, mark-c}
+use Rattle.rules.specs.Moments.{mark-z, mark-x, mark-p, mark-c, mark-f}
 use Rattle.rules.specs.Messages.{letter-P, letter-X, does, after}
 use Rattle.rules.specs.Machine.{Event, message, moment, becomes}
 use Rattle.rules.specs.Totals.{longer, spend, oneMore, beginsLimit, inPause, beginsPause, tradedBy, highestWith, lowestWith, brought}
@@ -192,6 +192,24 @@ module _ (h : Whole) (e : Event Message Notice) (v : CanHappen h e) where
           let same = best-alike old s′ l (in-limit n) d a c (kept h e v .1 .0) (kept h e v .1 .1 .0) quotes-are in
           absurd (k .1 (at-band-is old .holds (sym (ap (flagged 3) same) ∙ is-true _ (at-band-is s′) (n .1 .0))))
 
+-- neither p nor f comes to a stock in Limit
+no-p-or-f : (h : Whole) (n : Notice) → CanHappen h (moment n) → stateOf (h .stock) ≡ Limit → ¬ (n .mark ≡ mark-p or n .mark ≡ mark-f)
+no-p-or-f h n v l k = go (notice-row h n v)
+  where
+    other : (m : ℕ) → itsMoment n .mark ≡ m → ¬ (m ≡ mark-p) → ¬ (m ≡ mark-f) → ⊥
+    other m is p f = ⊎-elim (λ e. p (sym is ∙ e)) (λ e. f (sym is ∙ e)) k
+
+    go : ¬ IsRow (figuresOf (h .window)) (h .stock) (itsMoment n)
+    go (row-z m t a) = other _ m (λ e. omega arith) (λ e. omega arith)
+    go (row-w-early m t c a) = other _ m (λ e. omega arith) (λ e. omega arith)
+    go (row-w-late m t c a) = other _ m (λ e. omega arith) (λ e. omega arith)
+    go (row-x m t a) = other _ m (λ e. omega arith) (λ e. omega arith)
+    go (row-p m t a) = omega arith
+    go (row-c m t a) = other _ m (λ e. omega arith) (λ e. omega arith)
+    go (row-v m t a c) = other _ m (λ e. omega arith) (λ e. omega arith)
+    go (row-f m t a c) = omega arith
+    go (row-h m t a b c) = other _ m (λ e. omega arith) (λ e. omega arith)
+
 -- in Limit only a Q starts a reference
 starts-in-limit : (h : Whole) (e : Event Message Notice) → CanHappen h e → stateOf (h .stock) ≡ Limit → StartsOne h e
     → (time participant bid offer : ℕ) × (e ≡ message (Q time participant bid offer)) × LeavesLimit h participant bid offer
@@ -202,31 +220,9 @@ starts-in-limit h (message (O time participant price)) v l k = absurd (omega (ar
 starts-in-limit h (message (P time participant)) v l (r, k) = absurd k
 starts-in-limit h (message (R time participant price)) v l k = absurd (omega (arith, takes-in (R time participant price) h (v .0)))
 starts-in-limit h (message (X time participant price)) v l (r, k) = absurd k
-starts-in-limit h (moment n) v l (r, inl k) = absurd (go (notice-row h n v))
-  where
-    go : ¬ IsRow (figuresOf (h .window)) (h .stock) (itsMoment n)
-    go (row-z m t a) = omega (arith, k .0)
-    go (row-w-early m t c a) = omega (arith, k .0)
-    go (row-w-late m t c a) = omega (arith, k .0)
-    go (row-x m t a) = omega (arith, k .0)
-    go (row-p m t a) = omega arith
-    go (row-c m t a) = omega (arith, k .0)
-    go (row-v m t a c) = omega (arith, k .0)
-    go (row-f m t a c) = omega (arith, k .0)
-    go (row-h m t a b c) = omega (arith, k .0)
+starts-in-limit h (moment n) v l (r, inl k) = absurd (no-p-or-f h n v l (inl (k .0)))
 starts-in-limit h (moment n) v l (r, inr (inl k)) = absurd (omega (arith, k .1 .0))
-starts-in-limit h (moment n) v l (r, inr (inr (inl k))) = absurd (go (notice-row h n v))
-  where
-    go : ¬ IsRow (figuresOf (h .window)) (h .stock) (itsMoment n)
-    go (row-z m t a) = omega (arith, k .0)
-    go (row-w-early m t c a) = omega (arith, k .0)
-    go (row-w-late m t c a) = omega (arith, k .0)
-    go (row-x m t a) = omega (arith, k .0)
-    go (row-p m t a) = omega arith
-    go (row-c m t a) = omega (arith, k .0)
-    go (row-v m t a c) = omega (arith, k .0)
-    go (row-f m t a c) = omega arith
-    go (row-h m t a b c) = omega (arith, k .0)
+starts-in-limit h (moment n) v l (r, inr (inr (inl k))) = absurd (no-p-or-f h n v l (inr (k .0)))
 starts-in-limit h (moment n) v l (r, inr (inr (inr k))) = absurd (omega (arith, k .1 .0))
 
 module _ (h : Whole) (e : Event Message Notice) (v : CanHappen h e) where

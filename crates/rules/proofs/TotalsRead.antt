@@ -47,15 +47,6 @@ same-date (message (R time participant price)) = refl
 same-date (message (X time participant price)) = refl
 same-date (moment n) = refl
 
--- a story goes on from the stock with totals that its first event leaves
-left-cons : (c : Counted) (e : Event Message Notice) (es : Story) → left counting c (e ∷ es) ≡ left counting (becomes counting c e) es
-left-cons c (message m) es = refl
-left-cons c (moment n) es = refl
-
-machine-cons : (h : Whole) (e : Event Message Notice) (es : Story) → left machine h (e ∷ es) ≡ left machine (becomes machine h e) es
-machine-cons h (message m) es = refl
-machine-cons h (moment n) es = refl
-
 -- what each event of a story does to the totals, by the first event and the rest
 module _ (c : Counted) (e : Event Message Notice) (es : Story) (v : Lawful machine (c .whole) (e ∷ es)) where
   abbrev c′ : Counted
@@ -142,7 +133,6 @@ module _ (state : ℕ) (its : StateTimes → ℕ) (after : (c : Counted) (e : Ev
         ap (λ t. eqb (stateAt h (e ∷ es) t) state) at
         ∙ ap (λ es. eqb (stateOf (left machine h es .stock)) state)
         (if-false (ltb t date) [] (e ∷ upTo t es) (is-false _ (by-lt t date) (λ l. omega (arith, event-clock h e es v))))
-        ∙ ap (λ h. eqb (stateOf (h .stock)) state) (machine-cons h e (upTo t es))
 
     spent-by : its (becomes counting c e .totals .spent) ≡ its (c .totals .spent) + (if eqb (stateOf (h .stock)) state then date - clock else 0)
     spent-by = go (after c e (first-lawful h e es v))
@@ -175,8 +165,7 @@ module _ (state : ℕ) (its : StateTimes → ℕ) (after : (c : Counted) (e : Ev
       let first = many-const (in-state h (e ∷ es)) _ (date - clock) (early c e es v) in
       let second = many-same (λ i. in-state h (e ∷ es) (date - clock + i)) (in-state h′ es) (lastDate date es - date) (λ i _. late c e es v i) in
       let split = many-split (in-state h (e ∷ es)) (date - clock) (lastDate date es - date) in
-      ap (λ c. its (c .totals .spent)) (left-cons c e es)
-      ∙ rw long (omega (arith, r, spent-by c e es v, split, first, second))
+      rw long (omega (arith, r, spent-by c e es v, split, first, second))
 
   -- from the beginning of a day, with no time spent yet
   from-0 : (c : Counted) (es : Story) → Lawful machine (c .whole) es → clockOf (c .whole .stock) ≡ 0 → its (c .totals .spent) ≡ 0
@@ -260,7 +249,7 @@ sum-left : (c : Counted) (es : Story) → Lawful machine (c .whole) es → spent
     → spentInAll (left counting c es .totals .spent) ≡ clockOf (left counting c es .whole .stock)
 sum-left c [] v sum = sum
 sum-left c (e ∷ es) v sum =
-    rw (left-cons c e es) (sum-left (becomes counting c e) es (rest c e es v) (sum-after c e (first-lawful (c .whole) e es v) sum))
+    sum-left (becomes counting c e) es (rest c e es v) (sum-after c e (first-lawful (c .whole) e es v) sum)
 
 kept-sum : (end : ℕ) (u : Setup) (es : Story) → Allowed end u es → spentInAll (keeps end u es .spent) ≡ clockOf (leaves end u es .stock)
 unfolding fresh counted.fresh
@@ -298,15 +287,15 @@ module _ (Such : Whole → Event Message Notice → Type 0) (its : Totals → �
       go on (inl s) (inl k) =
           let r = on (omega (arith, k .0 .1, k .1)) in
           let more : its (becomes counting c e .totals) + r .0 ≡ its (c .totals) + suc (r .0) = omega (arith, k .1) in
-          (suc (r .0), inl (s, (r .0, refl, counts (r .0) (r .1))), rw (left-cons c e es) (subst (λ x. KeptCount x (its (left counting (becomes counting c e) es .totals))) more (r .2)))
+          (suc (r .0), inl (s, (r .0, refl, counts (r .0) (r .1))), subst (λ x. KeptCount x (its (left counting (becomes counting c e) es .totals))) more (r .2))
       go on (inl s) (inr k) =
           let full : ¬ (its (c .totals) < 4_294_967_295) = λ l. k .0 (s, l) in
           let r = on (omega (arith, k .1, l)) in
-          (suc (r .0), inl (s, (r .0, refl, counts (r .0) (r .1))), rw (left-cons c e es) (stopped (its (c .totals)) _ (r .0) _ (omega arith) (k .1) (r .2)))
+          (suc (r .0), inl (s, (r .0, refl, counts (r .0) (r .1))), stopped (its (c .totals)) _ (r .0) _ (omega arith) (k .1) (r .2))
       go on (inr n) (inl k) = absurd (n (k .0 .0))
       go on (inr n) (inr k) =
           let r = on (omega (arith, k .1, l)) in
-          (r .0, inr (n, counts (r .0) (r .1)), rw (left-cons c e es) (subst (λ x. KeptCount (x + r .0) (its (left counting (becomes counting c e) es .totals))) (k .1) (r .2)))
+          (r .0, inr (n, counts (r .0) (r .1)), subst (λ x. KeptCount (x + r .0) (its (left counting (becomes counting c e) es .totals))) (k .1) (r .2))
 
 pub one-count : OneCount
 one-count Such h [] n m a b = a ∙ sym b
