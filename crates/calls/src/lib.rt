@@ -1,6 +1,8 @@
 // The building blocks of the calls on a book, over one record by value: the first checks of a call, the step of one
 // stock in its part of both arrays, and the parts of a setup. No public function has a `requires`: where an array
-// is too short for the stock's part, a step gives 1 with zeros and changes nothing.
+// is too short for the stock's part, a step gives 1 with zeros and changes nothing. A step that shows quotes first
+// copies those of its record array by array: copied as a whole, they would be copied again for each function that
+// is passed them (docs/ARCHITECTURE.md, "Inside stock").
 ghost use mathlib.Core.Path.{_≡_};
 ghost use lib.ListN.{getD};
 ghost use Rattle.forms.specs.Checks.{first};
@@ -14,6 +16,7 @@ use rules::DONE;
 use rules::Message;
 use rules::NO_STOCK;
 use rules::PLACES;
+use rules::Quotes;
 use rules::RUBBISH;
 use rules::Summary;
 use rules::Upcoming;
@@ -51,7 +54,15 @@ pub fn told_at(r: Record, times: &mut [u32], prices: &mut [u32], stock: u32, m: 
     }
     let from = shape::start_of(stock);
     let to = from + PLACES;
-    r.tell(&mut times[from..to], &mut prices[from..to], m)
+    // the quotes are copied array by array, as the head of this file says
+    let mut s = r.stock;
+    let bids = s.quotes.bids;
+    let offers = s.quotes.offers;
+    let quotes = Quotes { bids, offers };
+    s.quotes = quotes;
+    let mut own = r;
+    own.stock = s;
+    own.tell(&mut times[from..to], &mut prices[from..to], m)
 }
 
 // Settles one stock to a time, in its 512 places of each array; gives 1 with zeros where an array is too short for
@@ -73,7 +84,15 @@ pub fn settled_at(
     }
     let from = shape::start_of(stock);
     let to = from + PLACES;
-    r.settle(&mut times[from..to], &mut prices[from..to], time)
+    // the quotes are copied array by array, as the head of this file says
+    let mut s = r.stock;
+    let bids = s.quotes.bids;
+    let offers = s.quotes.offers;
+    let quotes = Quotes { bids, offers };
+    s.quotes = quotes;
+    let mut own = r;
+    own.stock = s;
+    own.settle(&mut times[from..to], &mut prices[from..to], time)
 }
 
 // Reads what one stock shows; gives 1 with zeros where an array is too short for its 512 places.
@@ -85,7 +104,15 @@ pub fn read_at(r: Record, times: &[u32], prices: &[u32], stock: u32) -> Answer
     }
     let from = shape::start_of(stock);
     let to = from + PLACES;
-    r.read(&times[from..to], &prices[from..to])
+    // the quotes are copied array by array, as the head of this file says
+    let mut s = r.stock;
+    let bids = s.quotes.bids;
+    let offers = s.quotes.offers;
+    let quotes = Quotes { bids, offers };
+    s.quotes = quotes;
+    let mut own = r;
+    own.stock = s;
+    own.read(&times[from..to], &prices[from..to])
 }
 
 // Gives one stock's earliest moment still to come; gives 1 with none where an array is too short for its 512

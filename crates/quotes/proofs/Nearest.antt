@@ -3,7 +3,8 @@
 use Prim.Native.Nat.{ℕ, _+_, _-_, _%_, _≤_, _<_, min}
 use mathlib.Core.Bool.{Bool, true, false, _||_}
 use mathlib.Core.List.{List, foldl}
-use mathlib.Core.Path.{_≡_, refl}
+use mathlib.Core.Path.{_≡_, refl, _∙_}
+use native.Mathlib.Nat.{sub-self}
 use native.Mathlib.Omega.{arith}
 use borrow.Author.Tests.{ltb-true, ltb-false, eqb-true, eqb-false}
 use lib.Dec.{ltb, eqb}
@@ -13,8 +14,9 @@ use mir.Val.{Fits}
 use Rattle.forms.specs.Choice.{if_then_else_}
 use Rattle.forms.proofs.Bools.{joined}
 use Rattle.forms.proofs.Choice.{if-arms}
-use Rattle.forms.proofs.Loops.{fold-turn}
-use Rattle.rules.specs.Quotes.{higher, lesser}
+use Rattle.forms.proofs.Loops.{fold-turn, fold-end}
+use Rattle.rules.specs.Quotes.{higher, lesser, bestBid, bestOffer}
+use Rattle.quotes.specs.declared.side.Prices.{Prices}
 
 -- numbers, and what tests told of them
 ruleset told = (arith, ltb-true, ltb-false, eqb-true, eqb-false)
@@ -29,6 +31,10 @@ pub turn : (f : ℕ → ℕ → ℕ) (l : List ℕ) (a b w n i : ℕ) → length
 turn f l = fold-turn f l 0
 
 -- ------------------------------------------------------------------ bids
+
+pub no-bid-yet : (on : Bool) (upper cap : ℕ) (bids : List ℕ) → foldl (higher on upper) (cap - cap) bids ≡ bestBid on upper bids
+unfolding bestBid
+no-bid-yet on upper cap bids = rw sub-self
 
 pub higher-bid : (on : Bool) (upper cap gap bid r : ℕ) → cap ≡ (if on then min upper 4_294_967_295 else 4_294_967_295) → Fits w32 bid
     → gap ≤ cap → r ≡ min gap ((cap + 4_294_967_296 - bid) % 4_294_967_296) → cap - r ≡ higher on upper (cap - gap) bid
@@ -49,14 +55,13 @@ if-or false b x y = refl
 abbrev pub priceAt : ℕ → ℕ → ℕ
 priceAt least gap = (gap + least) % 4_294_967_296
 
-pub none-yet : (floor : ℕ) → floor ≤ 4_294_967_295 → priceAt (floor + 1) (4_294_967_296 - (floor + 1)) ≡ 0
+none-yet : (floor : ℕ) → floor ≤ 4_294_967_295 → priceAt (floor + 1) (4_294_967_296 - (floor + 1)) ≡ 0
 none-yet floor h = omega arith
 
-pub found : (least gap w : ℕ) → gap < 4_294_967_296 - least → priceAt least gap ≡ w → gap + least ≡ w
-found least gap w h e = omega arith
-
-pub none-found : (least gap w : ℕ) → 4_294_967_296 - least ≤ gap → gap + least ≤ 4_294_967_296 → priceAt least gap ≡ w → 0 ≡ w
-none-found least gap w h k e = omega arith
+pub no-offer-yet : (on : Bool) (lower floor : ℕ) (offers : List ℕ) → Fits w32 floor
+    → foldl (lesser on lower) (priceAt (floor + 1) (4_294_967_296 - (floor + 1))) offers ≡ bestOffer on lower offers
+unfolding bestOffer
+no-offer-yet on lower floor offers k = rw (none-yet floor (omega arith))
 
 module _ (floor gap offer r : ℕ) (k : Fits w32 offer) (h : gap + (floor + 1) ≤ 4_294_967_296)
     (q : r ≡ min gap ((offer + 4_294_967_296 - (floor + 1)) % 4_294_967_296)) where
@@ -81,3 +86,12 @@ module _ (floor gap offer r : ℕ) (k : Fits w32 offer) (h : gap + (floor + 1) �
       (λ t. if-arms Is (ltb offer lower) (λ u. left (omega told)) (λ u. taken (omega told))))
   lesser-offer false lower e =
       simp (joined, if-or) (if-arms Is (eqb offer 0) (λ t. left (omega told)) (λ t. taken (omega told)))
+
+-- ------------------------------------------------------------------ both sides
+
+-- when the loop is over, each side has its best price
+pub both : (on : Bool) (lower upper : ℕ) (bids offers : List ℕ) (bid best offer i : ℕ) → length bids ≡ 16 → length offers ≡ 16 → 16 ≤ i
+    → foldl (higher on upper) bid (drop i bids) ≡ bestBid on upper bids → foldl (lesser on lower) best (drop i offers) ≡ bestOffer on lower offers → offer ≡ best
+    → _≡_ {A = Prices} (record { bid = bid; offer = offer }) (record { bid = bestBid on upper bids; offer = bestOffer on lower offers })
+both on lower upper bids offers bid best offer i m n h e f g =
+    rw (fold-end (higher on upper) bids _ _ 16 i m h e, g ∙ fold-end (lesser on lower) offers _ _ 16 i n h f)

@@ -66,19 +66,16 @@ pub fn show(b: Basis, q: Quotes) -> Shown
 {
     let on = side::in_force(b);
     let bands = side::bands_in(b);
-    let bids = q.bids;
-    let offers = q.offers;
-    let bid = side::best_bid(on, bands.upper, bids);
-    let offer = side::best_offer(on, bands.lower, offers);
-    let bid_flag = side::bid_flag(on, bands, bid);
-    let offer_flag = side::offer_flag(on, bands, offer);
+    let prices = side::best_prices(on, bands.lower, bands.upper, q);
+    let bid_flag = side::bid_flag(on, bands, prices.bid);
+    let offer_flag = side::offer_flag(on, bands, prices.offer);
     let best = Best {
         bid: Side {
-            price: bid,
+            price: prices.bid,
             flag: bid_flag,
         },
         offer: Side {
-            price: offer,
+            price: prices.offer,
             flag: offer_flag,
         },
     };

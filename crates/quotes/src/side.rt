@@ -1,4 +1,4 @@
-// Bands in force, and one side of the quotes.
+// Bands in force, and the two sides of the quotes.
 ghost use Prim.Native.Nat.{_+_, _-_, _%_, _≤_, min};
 ghost use mathlib.Core.Path.{_≡_};
 ghost use Rattle.forms.specs.Choice.{if_then_else_};
@@ -12,7 +12,14 @@ use rules::FLAG_LIMIT;
 use rules::FLAG_NON_EXECUTABLE;
 use rules::FLAG_PLAIN;
 use rules::LIMIT;
+use rules::Quotes;
 use rules::TRADING;
+
+// The best bid and the best offer, without their flags.
+pub struct Prices {
+    pub bid: u32,
+    pub offer: u32,
+}
 
 // Whether bands are in force.
 pub(crate) fn in_force(b: Basis) -> bool
@@ -93,36 +100,38 @@ fn nearer(from: u64, to: u32, gap: u32) -> u32
     gap
 }
 
-// The best bid, 0 where none counts. Counting down from the cap modulo 2^32, 0 comes before every bid that does not
-// count.
-pub(crate) fn best_bid(on: bool, upper: u64, bids: [u32; 16]) -> u32
-    ensures { λ r. ⌜ r ≡ bestBid on upper bids ⌝ }
+// The price at a distance from the least offer that counts; 0 at `none`, the distance to 2^32.
+fn offer_at(least: u64, none: u32, gap: u32) -> u32
+    requires { ⌜ (none ≡ 4_294_967_296 - least) × (least ≤ 4_294_967_296) × (gap ≤ none) ⌝ }
+    ensures { λ r. ⌜ r ≡ (gap + least) % 4_294_967_296 ⌝ }
 {
-    let cap = cap_of(on, upper);
-    let mut gap = cap;
-    for i in 0..16 {
-        let bid = bids[i];
-        gap = nearer(bid as u64, cap, gap);
-    }
-    cap - gap
-}
-
-// The best offer, 0 where none counts. Counting up from the least that counts modulo 2^32, 0 comes before every
-// other that does not.
-pub(crate) fn best_offer(on: bool, lower: u64, offers: [u32; 16]) -> u32
-    ensures { λ r. ⌜ r ≡ bestOffer on lower offers ⌝ }
-{
-    let least = (floor_of(on, lower) as u64) + 1;
-    let none = (4_294_967_296 - least) as u32;
-    let mut gap = none;
-    for i in 0..16 {
-        let offer = offers[i];
-        gap = nearer(least, offer, gap);
-    }
     if gap < none {
         return ((gap as u64) + least) as u32;
     }
     0
+}
+
+// The best bid and the best offer, each 0 where none counts, in one loop over the participants. Counting down from
+// the cap modulo 2^32, 0 comes before every bid that does not count; counting up from the least offer that counts, 0
+// comes before every other that does not.
+pub(crate) fn best_prices(on: bool, lower: u64, upper: u64, q: Quotes) -> Prices
+    ensures { λ r. ⌜ r ≡ record { bid = bestBid on upper (q .bids); offer = bestOffer on lower (q .offers) } ⌝ }
+{
+    let cap = cap_of(on, upper);
+    let least = (floor_of(on, lower) as u64) + 1;
+    let none = (4_294_967_296 - least) as u32;
+    let mut down = cap;
+    let mut up = none;
+    for i in 0..16 {
+        let bid = q.bids[i];
+        let offer = q.offers[i];
+        down = nearer(bid as u64, cap, down);
+        up = nearer(least, offer, up);
+    }
+    Prices {
+        bid: cap - down,
+        offer: offer_at(least, none, up),
+    }
 }
 
 // The best bid's flag.
