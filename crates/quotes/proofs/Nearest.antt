@@ -1,4 +1,4 @@
--- The nearest price is the best one: what `nearer` does at a bid or an offer, in the words of the rules.
+-- The nearest price is the best one: what `nearer` does at a bid or an offer, and what the loop over both has found, in the words of the rules.
 -- Assumes nothing.
 use Prim.Native.Nat.{ℕ, _+_, _-_, _%_, _≤_, _<_, min}
 use mathlib.Core.Bool.{Bool, true, false, _||_}
@@ -32,6 +32,7 @@ turn f l = fold-turn f l 0
 
 -- ------------------------------------------------------------------ bids
 
+-- before the first bid the distance is the cap, and the best bid is none
 pub no-bid-yet : (on : Bool) (upper cap : ℕ) (bids : List ℕ) → foldl (higher on upper) (cap - cap) bids ≡ bestBid on upper bids
 unfolding bestBid
 no-bid-yet on upper cap bids = rw sub-self
@@ -58,6 +59,7 @@ priceAt least gap = (gap + least) % 4_294_967_296
 none-yet : (floor : ℕ) → floor ≤ 4_294_967_295 → priceAt (floor + 1) (4_294_967_296 - (floor + 1)) ≡ 0
 none-yet floor h = omega arith
 
+-- before the first offer the distance leads to 2^32, and the best offer is none
 pub no-offer-yet : (on : Bool) (lower floor : ℕ) (offers : List ℕ) → Fits w32 floor
     → foldl (lesser on lower) (priceAt (floor + 1) (4_294_967_296 - (floor + 1))) offers ≡ bestOffer on lower offers
 unfolding bestOffer
@@ -90,8 +92,8 @@ module _ (floor gap offer r : ℕ) (k : Fits w32 offer) (h : gap + (floor + 1) �
 -- ------------------------------------------------------------------ both sides
 
 -- when the loop is over, each side has its best price
-pub both : (on : Bool) (lower upper : ℕ) (bids offers : List ℕ) (bid best offer i : ℕ) → length bids ≡ 16 → length offers ≡ 16 → 16 ≤ i
+pub both-best : (on : Bool) (lower upper : ℕ) (bids offers : List ℕ) (bid best offer i : ℕ) → length bids ≡ 16 → length offers ≡ 16 → 16 ≤ i
     → foldl (higher on upper) bid (drop i bids) ≡ bestBid on upper bids → foldl (lesser on lower) best (drop i offers) ≡ bestOffer on lower offers → offer ≡ best
     → _≡_ {A = Prices} (record { bid = bid; offer = offer }) (record { bid = bestBid on upper bids; offer = bestOffer on lower offers })
-both on lower upper bids offers bid best offer i m n h e f g =
+both-best on lower upper bids offers bid best offer i m n h e f g =
     rw (fold-end (higher on upper) bids _ _ 16 i m h e, g ∙ fold-end (lesser on lower) offers _ _ 16 i n h f)

@@ -51,7 +51,7 @@ pub(crate) fn answer_of(number: u32, k: Kept, q: Quotes) -> Answer
         return crate::zeros(number);
     }
     let basis = quotes::basis_of(k);
-    // copied behind the test, so that the compiler can leave the copy out
+    // named behind the test: before it, the compiler would copy the quotes on every path
     let own = q;
     let shown = quotes::show(basis, own);
     with_shown(number, k, shown)
