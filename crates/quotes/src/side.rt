@@ -113,7 +113,7 @@ fn offer_at(least: u64, none: u32, gap: u32) -> u32
 
 // The best bid and the best offer, each 0 where none counts, in one loop over the participants. Distances are modulo
 // 2^32: down from the cap, 0 (no bid) is nearer than every bid above the cap; up from the least offer that counts,
-// 2^32 (no offer) is nearer than every other offer below it.
+// 2^32 (no offer) is nearer than every offer that does not.
 pub(crate) fn best_prices(on: bool, lower: u64, upper: u64, q: Quotes) -> Prices
     ensures { λ r. ⌜ r ≡ record { bid = bestBid on upper (q .bids); offer = bestOffer on lower (q .offers) } ⌝ }
 {
