@@ -56,14 +56,11 @@ if-or false b x y = refl
 abbrev pub priceAt : ℕ → ℕ → ℕ
 priceAt least gap = (gap + least) % 4_294_967_296
 
-none-yet : (floor : ℕ) → floor ≤ 4_294_967_295 → priceAt (floor + 1) (4_294_967_296 - (floor + 1)) ≡ 0
-none-yet floor h = omega arith
-
 -- before the first offer the distance leads to 2^32, and the best offer is none
 pub no-offer-yet : (on : Bool) (lower floor : ℕ) (offers : List ℕ) → Fits w32 floor
     → foldl (lesser on lower) (priceAt (floor + 1) (4_294_967_296 - (floor + 1))) offers ≡ bestOffer on lower offers
 unfolding bestOffer
-no-offer-yet on lower floor offers k = rw (none-yet floor (omega arith))
+no-offer-yet on lower floor offers k = let none : priceAt (floor + 1) (4_294_967_296 - (floor + 1)) ≡ 0 = omega arith in rw none
 
 module _ (floor gap offer r : ℕ) (k : Fits w32 offer) (h : gap + (floor + 1) ≤ 4_294_967_296)
     (q : r ≡ min gap ((offer + 4_294_967_296 - (floor + 1)) % 4_294_967_296)) where

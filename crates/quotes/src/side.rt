@@ -100,7 +100,8 @@ fn nearer(from: u64, to: u32, gap: u32) -> u32
     gap
 }
 
-// The price at a distance from the least offer that counts; 0 at `none`, the distance to 2^32.
+// The price at a distance from the least offer that counts; 0 at `none`, the distance to 2^32. With a remainder in
+// place of the comparison the compiler does not vectorize the loop.
 fn offer_at(least: u64, none: u32, gap: u32) -> u32
     requires { ⌜ (none ≡ 4_294_967_296 - least) × (least ≤ 4_294_967_296) × (gap ≤ none) ⌝ }
     ensures { λ r. ⌜ r ≡ (gap + least) % 4_294_967_296 ⌝ }
