@@ -8,7 +8,7 @@ use native.Mathlib.Nat.{mul_left_comm, mul-le-mul_left, le_of_mul-le-mul_left, m
 use native.Mathlib.Omega.{arith}
 use borrow.Author.Tests.{ltb-true, ltb-false, leb-true, leb-false, le-ltb, eqb-true, eqb-false, ne_eqb}
 use lib.Dec.{ltb, leb, eqb}
-use Rattle.forms.specs.Choice.{if◌then◌else◌}
+use Rattle.forms.specs.Choice.{if◌then◌otherwise◌}
 use Rattle.forms.specs.Words.{Gives}
 use Rattle.forms.proofs.Choice.{if_true, if_false, if_arms}
 use Rattle.forms.proofs.Decides.{Decides, either_way, is_true, exactly_where, is_false, by_le, by_lt, words, choice, take, skip, exactly}
@@ -115,7 +115,7 @@ one_lower n d a lower h (inr l) = nothing n d a h l.0 ∙ sym l.1
 
 -- the upper band, where the rounded number is u
 abbrev not_nothing : ℕ → ℕ
-not_nothing u = if eqb u 0 then 100 else u
+not_nothing u = if eqb u 0 then 100 otherwise u
 
 upper_given : (n d a : ℕ) → 1 ≤ d → IsUpper n d a (not_nothing (cent (100 * n + a) d))
 upper_given n d a h =
@@ -185,8 +185,8 @@ min_scaled j a b =
     ⊎_elim (λ l. min-eq_right (mul-le-mul_left j (omega arith)) ∙ sym (ap (λ x. j * x) l.1))
     (λ l. min-eq_left (mul-le-mul_left j (omega arith)) ∙ sym (ap (λ x. j * x) l.1)) (lesser a b)
 
-if_scaled : (b : Bool) (j x y : ℕ) → (if b then j * x else j * y) ≡ j * (if b then x else y)
-unfolding if◌then◌else◌
+if_scaled : (b : Bool) (j x y : ℕ) → (if b then j * x otherwise j * y) ≡ j * (if b then x otherwise y)
+unfolding if◌then◌otherwise◌
 if_scaled true j x y = refl
 if_scaled false j x y = refl
 
@@ -196,7 +196,7 @@ spread_scaled j n d p k =
     let least = min_scaled j (150_000 * d) (75 * n) in
     let small_rule : k * min (150_000 * (j * d)) (75 * (j * n)) ≡ j * (k * min (150_000 * d) (75 * n)) =
     ap (λ x. k * x) (ap₂ min (mul_left_comm 150_000 j d) (mul_left_comm 75 j n) ∙ least) ∙ mul_left_comm k j _ in
-    ap₂ (λ x y. if eqb p small then x else y) small_rule (mul_left_comm (k * p) j n)
+    ap₂ (λ x y. if eqb p small then x otherwise y) small_rule (mul_left_comm (k * p) j n)
     ∙ if_scaled _ j _ _
 
 pub bands_scaled : BandsScaled

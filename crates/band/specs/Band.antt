@@ -3,7 +3,7 @@
 -- Assumes nothing.
 use Rattle.std.specs.Prelude.{ℕ, ◌+◌, ◌-◌, ◌*◌, ◌/◌, min, Bool, ltb, leb, eqb, length}
 use mathlib.Core.List.{List, [], ◌∷◌, foldl}
-use Rattle.forms.specs.Choice.{if◌then◌else◌, all_of, any_of}
+use Rattle.forms.specs.Choice.{if◌then◌otherwise◌, all_of, any_of}
 use Rattle.band.specs.declared.Bands.{Bands}
 use Rattle.band.specs.declared.Mean.{Mean}
 
@@ -14,15 +14,15 @@ small = 0
 -- the percent that the previous close fixes for the day; an unknown tier counts as tier 2
 unfoldable pub percent_of : ℕ → ℕ → ℕ
 percent_of tier close =
-    if ltb 30_000 close then (if eqb tier 1 then 5 else 10) else
-    if leb 7_500 close then 20 else
+    if ltb 30_000 close then (if eqb tier 1 then 5 otherwise 10) otherwise
+    if leb 7_500 close then 20 otherwise
     small
 
 -- factor k: the leverage, doubled at the session's start and end; a leverage over 3 counts as 0
 unfoldable pub factor_of : ℕ → ℕ → ℕ → ℕ
 factor_of leverage time end =
-    if ltb 3 leverage then 0 else
-    if any_of (ltb time 900_000 ∷ leb (end - 1_500_000) time ∷ []) then 2 * leverage else
+    if ltb 3 leverage then 0 otherwise
+    if any_of (ltb time 900_000 ∷ leb (end - 1_500_000) time ∷ []) then 2 * leverage otherwise
     leverage
 
 -- a price as a mean: a sum with count 1
@@ -43,13 +43,13 @@ fits m = all_of (ltb m.sum 17_592_186_044_416 ∷ ltb m.count 4_096 ∷ [])
 
 -- the mean, or none where they have no room for it
 unfoldable pub fit : Mean → Mean
-fit m = if fits m then m else no_mean
+fit m = if fits m then m otherwise no_mean
 
 -- A, the distance of the bands from a reference n / d, as a numerator over d in hundredths of a price's unit; by the small rule at most k times
 -- 15 cents
 unfoldable pub spread_of : ℕ → ℕ → ℕ → ℕ → ℕ
 spread_of n d percent k =
-    if eqb percent small then k * min (150_000 * d) (75 * n) else
+    if eqb percent small then k * min (150_000 * d) (75 * n) otherwise
     k * percent * n
 
 -- x / d hundredths of a price's unit, rounded to whole cents, a half up
@@ -68,7 +68,7 @@ lower_of n d percent k = cent (100 * n - spread_of n d percent k) d
 unfoldable pub upper_of : ℕ → ℕ → ℕ → ℕ → ℕ
 upper_of n d percent k =
     let u = cent (100 * n + spread_of n d percent k) d in
-    if eqb u 0 then 100 else u
+    if eqb u 0 then 100 otherwise u
 
 unfoldable pub bands_of : ℕ → ℕ → ℕ → ℕ → Bands
 bands_of n d percent k = record { lower = lower_of n d percent k; upper = upper_of n d percent k }

@@ -1,5 +1,7 @@
 // Band arithmetic: percent, factor k, the bands, the printed value of a mean and the one percent test. No public
 // function has a `requires`: a definition of specs/Band.antt gives the result for every input.
+#![tactic(auto)]
+
 ghost use Rattle.std.specs.Prelude.{◌≡◌, ◌≤◌, ◌<◌, ◌^◌, min};
 ghost use Rattle.band.specs.Band.{percent_of, factor_of, fits, fit, spread_of, cent, minus_of, bands_of, bands_by, printed_by, moves_by};
 ghost use Rattle.band.specs.Words.{Fits};
@@ -22,7 +24,7 @@ const COUNT_BOUND: u64 = 4_096;
 // An exact mean: the sum of some prices, and how many they are. A price is the mean of itself alone; none has the sum
 // 0 and the count 0. The count has 64 bits too, so that no record that holds a mean has padding.
 #[repr(C)]
-#[derive(Drop)]
+#[derive(Clone, Copy)]
 pub struct Mean {
     pub sum: u64,
     pub count: u64,
@@ -30,7 +32,7 @@ pub struct Mean {
 
 // A lower and an upper band. They have 64 bits: the upper band of a reference that was not validated yet can
 // overflow 32.
-#[derive(Drop)]
+#[derive(Clone, Copy)]
 pub struct Bands {
     pub lower: u64,
     pub upper: u64,

@@ -8,12 +8,12 @@ use native.Mathlib.Omega.{arith}
 use borrow.Author.Tests.{ltb-true, eq-eqb, ne_eqb}
 use lib.Dec.{ltb}
 use lib.ListN.{length, length-map}
-use Rattle.forms.specs.Choice.{if◌then◌else◌}
+use Rattle.forms.specs.Choice.{if◌then◌otherwise◌}
 use Rattle.forms.specs.Checks.{first}
 use Rattle.forms.proofs.Choice.{if_true, if_false}
 use Rattle.rules.specs.Counted.{Counted, reads, fresh, tell_answer, settle_answer, read_answer, or_wrong, tells}
 use Rattle.rules.specs.TotalsWords.{Wrong}
-use Rattle.rules.specs.Machine.{On, Call, Calls, tell, settle, stock, step_in, run}
+use Rattle.rules.specs.Machine.{On, Call, Calls, tell, settle, step_in, run}
 use Rattle.rules.specs.Book.{counting, blank, book, Accepted, now, book_tells, book_settles, book_reads, book_next, book_totals}
 use Rattle.rules.specs.Numbers.{answer, call_checks}
 use Rattle.rules.specs.Words.{Rubbish}
@@ -71,7 +71,7 @@ module _ (end : ℕ) (us : List Setup) (accepted : Accepted end us) where
     abbrev places : ℕ
     places = 512 * length (hs cs)
 
-    first_is : first (call_checks (length (hs cs)) places places i) ≡ (if ltb i (length (hs cs)) then 0 else 3)
+    first_is : first (call_checks (length (hs cs)) places places i) ≡ (if ltb i (length (hs cs)) then 0 otherwise 3)
     first_is = first_number end (hs cs) (all_fit end us cs) (omega (arith, long cs)) (omega (arith, long cs)) i
 
     told_not_one : (m : Message) → (book_tells end (hs cs) places places i m).number ≡ 1 → ⊥

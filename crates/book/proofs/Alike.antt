@@ -9,7 +9,7 @@ use borrow.Author.Tests.{eqb-true}
 use lib.Dec.{eqb}
 use lib.Seq.{ext_get_or}
 use lib.ListN.{length, length-map}
-use Rattle.forms.specs.Choice.{if◌then◌else◌, all_of}
+use Rattle.forms.specs.Choice.{if◌then◌otherwise◌, all_of}
 use Rattle.forms.specs.Words.{Gives}
 use Rattle.forms.proofs.Decides.{past}
 use Rattle.rules.specs.Counted.{Counted, fresh, settles, notice, settle_answer}
@@ -42,12 +42,12 @@ module _ (end : ℕ) (hs : List Counted) (i j : ℕ) (later : Happened) where
   -- an accepted message is in the story of its stock, and no other is
   tell_happens : (m : Message) (a : Answer) → number_in counting (blank end) hs (record { at = j; it = tell m }) ≡ a.number
       → let es = of i (happens counting (blank end) hs (record { at = j; it = tell m }) ++ later) in
-      (messages es ≡ (if all_of (eqb i j ∷ eqb a.number 0 ∷ []) then m ∷ messages (of i later) else messages (of i later))) × (notices es ≡ notices (of i later))
-  unfolding happens of all_of if◌then◌else◌
+      (messages es ≡ (if all_of (eqb i j ∷ eqb a.number 0 ∷ []) then m ∷ messages (of i later) otherwise messages (of i later))) × (notices es ≡ notices (of i later))
+  unfolding happens of all_of if◌then◌otherwise◌
   tell_happens m a e = go (eqb a.number 0) refl (eqb i j) refl
     where
       go : (x : Bool) → eqb a.number 0 ≡ x → (y : Bool) → eqb i j ≡ y → let es = of i (happens counting (blank end) hs (record { at = j; it = tell m }) ++ later) in
-          (messages es ≡ (if all_of (eqb i j ∷ eqb a.number 0 ∷ []) then m ∷ messages (of i later) else messages (of i later))) × (notices es ≡ notices (of i later))
+          (messages es ≡ (if all_of (eqb i j ∷ eqb a.number 0 ∷ []) then m ∷ messages (of i later) otherwise messages (of i later))) × (notices es ≡ notices (of i later))
       go true q true r = rw (e, q, r) (refl, refl)
       go true q false r = rw (e, q, r) (refl, refl)
       go false q true r = rw (e, q, r) (refl, refl)
@@ -57,12 +57,12 @@ module _ (end : ℕ) (hs : List Counted) (i j : ℕ) (later : Happened) where
   settle_happens : (time : ℕ) (a : Notice) → number_in counting (blank end) hs (record { at = j; it = settle time }) ≡ a.answer.number
       → (a.answer.number ≡ 0 → a ≡ notice (stock counting (blank end) hs j))
       → let es = of i (happens counting (blank end) hs (record { at = j; it = settle time }) ++ later) in
-      (messages es ≡ messages (of i later)) × (notices es ≡ (if all_of (eqb i j ∷ eqb a.answer.number 0 ∷ []) then a ∷ notices (of i later) else notices (of i later)))
-  unfolding happens of all_of if◌then◌else◌
+      (messages es ≡ messages (of i later)) × (notices es ≡ (if all_of (eqb i j ∷ eqb a.answer.number 0 ∷ []) then a ∷ notices (of i later) otherwise notices (of i later)))
+  unfolding happens of all_of if◌then◌otherwise◌
   settle_happens time a e is = go (eqb a.answer.number 0) refl (eqb i j) refl
     where
       go : (x : Bool) → eqb a.answer.number 0 ≡ x → (y : Bool) → eqb i j ≡ y → let es = of i (happens counting (blank end) hs (record { at = j; it = settle time }) ++ later) in
-          (messages es ≡ messages (of i later)) × (notices es ≡ (if all_of (eqb i j ∷ eqb a.answer.number 0 ∷ []) then a ∷ notices (of i later) else notices (of i later)))
+          (messages es ≡ messages (of i later)) × (notices es ≡ (if all_of (eqb i j ∷ eqb a.answer.number 0 ∷ []) then a ∷ notices (of i later) otherwise notices (of i later)))
       go true q true r = rw (e, q, r) (refl, ap (λ (n : Notice). n ∷ notices (of i later)) (sym (is (eqb-true _ _ q))))
       go true q false r = rw (e, q, r) (refl, refl)
       go false q true r = rw (e, q, r) (refl, refl)
@@ -114,14 +114,14 @@ as_answered_lem i end hs s f (told j m a ∷ cs) k =
     let long = step_length end hs c in
     let rest = as_answered_lem i end (step_in counting (blank end) hs c) (omega (arith, s, long)) (omega (arith, f, long)) cs k.1 in
     let this = tell_happens end hs i j (log counting (blank end) (step_in counting (blank end) hs c) (calls cs)) m a (told_number end hs s f j m a k.0) in
-    (this.0 ∙ ap (λ (l : List Message). if all_of (eqb i j ∷ eqb a.number 0 ∷ []) then m ∷ l else l) rest.0, this.1 ∙ rest.1)
+    (this.0 ∙ ap (λ (l : List Message). if all_of (eqb i j ∷ eqb a.number 0 ∷ []) then m ∷ l otherwise l) rest.0, this.1 ∙ rest.1)
 as_answered_lem i end hs s f (settled j time a ∷ cs) k =
     let c : On (Call Message) = record { at = j; it = settle time } in
     let long = step_length end hs c in
     let rest = as_answered_lem i end (step_in counting (blank end) hs c) (omega (arith, s, long)) (omega (arith, f, long)) cs k.1 in
     let this = settle_happens end hs i j (log counting (blank end) (step_in counting (blank end) hs c) (calls cs)) time a
     (settled_number end hs s f j time a k.0) (settled_notice end hs s f j time a k.0) in
-    (this.0 ∙ rest.0, this.1 ∙ ap (λ (l : List Notice). if all_of (eqb i j ∷ eqb a.answer.number 0 ∷ []) then a ∷ l else l) rest.1)
+    (this.0 ∙ rest.0, this.1 ∙ ap (λ (l : List Notice). if all_of (eqb i j ∷ eqb a.answer.number 0 ∷ []) then a ∷ l otherwise l) rest.1)
 as_answered_lem i end hs s f (was_read j a ∷ cs) k = as_answered_lem i end hs s f cs k.1
 as_answered_lem i end hs s f (next_given j u ∷ cs) k = as_answered_lem i end hs s f cs k.1
 as_answered_lem i end hs s f (totals_given j x ∷ cs) k = as_answered_lem i end hs s f cs k.1
@@ -194,15 +194,15 @@ stories_told 𝓕 d end list b₀ b b' a cs p z k = stories 𝓕 d end list b₀
 pub alike : (𝓕 : Family) → Demand2 𝓕 → Demand3 𝓕
 alike 𝓕 d end time list b₀ b b' c₀ c c' a e cs ds p p0 pk q q0 qk ps qs same =
     let us = setups_of list in
-    let on-left = stories 𝓕 d end list b₀ b a p p0 b' cs pk in
-    let on-right = stories 𝓕 d end list c₀ c e q q0 c' ds qk in
+    let on_left = stories 𝓕 d end list b₀ b a p p0 b' cs pk in
+    let on_right = stories 𝓕 d end list c₀ c e q q0 c' ds qk in
     let hs = run counting (blank end) (book end us) (calls cs) in
     let ks = run counting (blank end) (book end us) (calls ds) in
     let many = long 𝓕 d end list b₀ b a p p0 b' cs pk in
     let each = demands.settled_alike end us (calls cs) (calls ds) time
     (is_settled 𝓕 d end list b₀ b a p p0 b' cs pk time ps) (is_settled 𝓕 d end list c₀ c e q q0 c' ds qk time qs)
-    (λ i. (on-left i).0 ∙ same i ∙ sym (on-right i).0) in
+    (λ i. (on_left i).0 ∙ same i ∙ sym (on_right i).0) in
     let books : hs ≡ ks = ext_get_or (blank end) hs ks (many ∙ sym (long 𝓕 d end list c₀ c e q q0 c' ds qk)) (λ i l. (each i (omega (arith, many, l))).0) in (
       (d.from_setup end list b₀ b b' a cs p p0 pk).1 ∙ ap layout books ∙ sym (d.from_setup end list c₀ c c' e ds q q0 qk).1,
-      λ i l. sym (on-left i).1 ∙ (each i (omega (arith, l, records 𝓕 d end list b₀ b a p p0 b' cs pk))).1 ∙ (on-right i).1,
+      λ i l. sym (on_left i).1 ∙ (each i (omega (arith, l, records 𝓕 d end list b₀ b a p p0 b' cs pk))).1 ∙ (on_right i).1,
     )

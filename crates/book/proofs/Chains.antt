@@ -9,7 +9,7 @@ use native.Mathlib.Omega.{arith}
 use borrow.Author.Tests.{ltb-false, eqb-true, eqb-false}
 use lib.Dec.{ltb, eqb}
 use lib.ListN.{length, get_or, set, replicate, length-map, length-set, replicate-append-replicate}
-use Rattle.forms.specs.Choice.{if◌then◌else◌}
+use Rattle.forms.specs.Choice.{if◌then◌otherwise◌}
 use Rattle.forms.specs.Checks.{first}
 use Rattle.forms.specs.Words.{Gives}
 use Rattle.forms.proofs.Choice.{if_true, if_false, if_arms, any_head, any_tail, eq_of_not}
@@ -28,7 +28,7 @@ use Rattle.rules.proofs.Answers.{nothing_shown}
 use Rattle.rules.proofs.Passed.{settled as passed_settling}
 use Rattle.stock.proofs.Calls.{room, fired_few}
 use Rattle.window.specs.Places.{laid}
-use Rattle.calls.specs.Setup.{setups_of, record_of_lem, setup_number}
+use Rattle.calls.specs.Setup.{setups_of, record_of, setup_number}
 use Rattle.calls.proofs.InWords.{setup_number_is}
 use Rattle.book.specs.Lent.{Lent, lent, Given}
 use Rattle.book.specs.Words.{setup_table}
@@ -42,10 +42,10 @@ use Rattle.book.proofs.Follows.{tell_follows, settle_follows, read_follows, next
 
 -- ------------------------------------------------------------------ the book that a setup starts
 
-fresh_records : (end : ℕ) (us : List Setup) → map (λ h. (stock_bytes h).kept) (book end us) ≡ map (record_of_lem end) us
+fresh_records : (end : ℕ) (us : List Setup) → map (λ h. (stock_bytes h).kept) (book end us) ≡ map (record_of end) us
 unfolding fresh numbers.fresh
 fresh_records end [] = refl
-fresh_records end (u ∷ us) = ap (λ r. record_of_lem end u ∷ r) (fresh_records end us)
+fresh_records end (u ∷ us) = ap (λ r. record_of end u ∷ r) (fresh_records end us)
 
 -- the places of stocks that hold no trade are 0
 fresh_places : (end : ℕ) (f : Counted → List ℕ) → ((u : Setup) → f (fresh end u) ≡ empty) → (us : List Setup)
@@ -56,7 +56,7 @@ fresh_places end f z (u ∷ us) =
     let e : 512 * length (u ∷ us) ≡ 512 + 512 * length us = omega (arith, mul-suc 512 (length us)) in
     rw (z u, fresh_places end f z us, e) (replicate-append-replicate 512 (512 * length us) 0)
 
-fresh_layout : (end : ℕ) (us : List Setup) → layout (book end us) ≡ lent (map (record_of_lem end) us) (replicate (512 * length us) 0) (replicate (512 * length us) 0)
+fresh_layout : (end : ℕ) (us : List Setup) → layout (book end us) ≡ lent (map (record_of end) us) (replicate (512 * length us) 0) (replicate (512 * length us) 0)
 unfolding laid fresh numbers.fresh
 fresh_layout end us =
     rw (fresh_records end us, fresh_places end (λ h. (stock_bytes h).times) (λ u. refl) us, fresh_places end (λ h. (stock_bytes h).prices) (λ u. refl) us)
@@ -90,7 +90,7 @@ module _ (end : ℕ) (hs : List Counted) (c : On (Call Message)) where
       {x = set hs c.at (done counting c.it (stock counting (blank end) hs c.at))} {y = hs} (λ _. length-set hs c.at _) (λ _. refl)
 
 -- the stock that a done call names is there
-there : (end : ℕ) (hs : List Counted) (i n : ℕ) → (if ltb i (length hs) then n else 3) ≡ 0 → n ≡ 0
+there : (end : ℕ) (hs : List Counted) (i n : ℕ) → (if ltb i (length hs) then n otherwise 3) ≡ 0 → n ≡ 0
 there end hs i n e = go (ltb i (length hs)) refl
   where
     go : (b : Bool) → ltb i (length hs) ≡ b → n ≡ 0

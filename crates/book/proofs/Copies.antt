@@ -8,7 +8,7 @@ use mathlib.Core.Path.{◌≡◌, refl, sym, ap, ◌∙◌, subst}
 use borrow.Author.Tests.{eqb-true, eqb-false, eq-eqb}
 use lib.Dec.{eqb}
 use lib.ListN.{length}
-use Rattle.forms.specs.Choice.{if◌then◌else◌}
+use Rattle.forms.specs.Choice.{if◌then◌otherwise◌}
 use Rattle.forms.proofs.Choice.{if_true}
 use Rattle.rules.specs.Machine.{journal, IsJournal, Call, tell, settle}
 use Rattle.rules.specs.Numbers.{zeros, no_notice}
@@ -83,7 +83,7 @@ module _ {A : Type 0} (j : ℕ) (step : Bytes → Outcome A) (beside : ℕ → A
 
 -- of the calls on a book those on stock i are a chain on its bytes
 apart : (i : ℕ) (cs : List Made) (b b' : Lent) → InShape b → i < length b.records → Chain ours b cs b' → OneChain (bytes_of i b) (made_of i cs) (bytes_of i b')
-unfolding if◌then◌else◌
+unfolding if◌then◌otherwise◌
 apart i [] b b' s l k = ap (bytes_of i) k
 apart i (refused_setup end list a ∷ cs) b b' s l k =
     apart i cs b b' s l (subst (λ x. Chain ours x cs b') (laws.set_up_refused end list b k.0 a k.1 k.2) k.3)

@@ -1,12 +1,8 @@
 -- The record of specs/Demands.antt.
 -- Assumes nothing.
-use Prim.Native.Nat.{ℕ}
 use mathlib.Core.Path.{refl, sym, subst}
-use Rattle.forms.specs.Words.{Gives}
-use Rattle.rules.specs.Counted.{Counted, tell_answer, settle_answer, read_answer, next_answer, no_summary, totals_answer}
+use Rattle.rules.specs.Counted.{tell_answer, settle_answer, read_answer, next_answer, no_summary, totals_answer}
 use Rattle.rules.specs.Numbers.{zeros, no_notice, none_coming}
-use Rattle.rules.specs.Words.{refusals, settle_refusals, read_refusals}
-use Rattle.rules.specs.declared.Message.{Message}
 use Rattle.rules.specs.declared.Notice.{Notice}
 use Rattle.rules.proofs.Demands.{demands as rules}
 use Rattle.stock.specs.View.{telling, settling}

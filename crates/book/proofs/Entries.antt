@@ -7,7 +7,7 @@ use mathlib.Core.Logic.{◌⊎◌, inl, inr}
 use mathlib.Core.Path.{◌≡◌, refl, ap, ◌∙◌}
 use borrow.Author.Tests.{eq-eqb, ne_eqb}
 use lib.Dec.{eqb}
-use Rattle.forms.specs.Choice.{if◌then◌else◌}
+use Rattle.forms.specs.Choice.{if◌then◌otherwise◌}
 use Rattle.forms.specs.Words.{◌and◌, Otherwise}
 use Rattle.forms.proofs.Choice.{if_true, if_false}
 use Rattle.forms.proofs.Decides.{either_way, by_eq}
@@ -16,8 +16,8 @@ use Rattle.rules.proofs.Journal.{journal_append}
 use Rattle.book.specs.Demands.{Made, refused_setup, told, settled, was_read, next_given, totals_given, MadeOne, told_one, settled_one, number_made, made_of, journal_of, JournalsGrow}
 
 -- one more of a stock's calls
-one_more_lem : (b : Bool) (x : MadeOne) (ws xs ys : List MadeOne) → ws ≡ xs ++ ys → (if b then x ∷ ws else ws) ≡ (if b then x ∷ xs else xs) ++ ys
-unfolding if◌then◌else◌
+one_more_lem : (b : Bool) (x : MadeOne) (ws xs ys : List MadeOne) → ws ≡ xs ++ ys → (if b then x ∷ ws otherwise ws) ≡ (if b then x ∷ xs otherwise xs) ++ ys
+unfolding if◌then◌otherwise◌
 one_more_lem true x ws xs ys e = ap (λ l. x ∷ l) e
 one_more_lem false x ws xs ys e = e
 
@@ -46,7 +46,7 @@ module _ (i : ℕ) where
     not_entered xs e k = entered xs [] e k ∙ append-nil _
 
     -- a call x on stock j
-    module _ (j : ℕ) (x : MadeOne) (is : made_of i (c ∷ []) ≡ (if eqb i j then x ∷ [] else [])) where
+    module _ (j : ℕ) (x : MadeOne) (is : made_of i (c ∷ []) ≡ (if eqb i j then x ∷ [] otherwise [])) where
       own : i ≡ j → made_of i (c ∷ []) ≡ x ∷ []
       own e = is ∙ if_true _ _ _ (eq-eqb i j e)
 

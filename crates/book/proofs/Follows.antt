@@ -9,7 +9,7 @@ use borrow.Author.Tests.{ltb-true, ltb-false, lt-ltb, le-ltb, le-leb, lt-leb, eq
 use lib.Dec.{ltb, leb, eqb}
 use lib.ListN.{length, set}
 use lib.Seq.{set-get_or}
-use Rattle.forms.specs.Choice.{if◌then◌else◌}
+use Rattle.forms.specs.Choice.{if◌then◌otherwise◌}
 use Rattle.forms.specs.Checks.{first}
 use Rattle.forms.proofs.Choice.{if_true, if_false, any_not, any_empty, eq_not}
 use Rattle.rules.specs.Counted.{Counted, fire, after, tells, settles, tell_answer, settle_answer, read_answer, next_answer, no_summary, totals_answer}
@@ -27,28 +27,28 @@ use Rattle.book.proofs.Layouts.{Fits, in_shape_lem, lay_again, read_again, lengt
 
 -- what a step gives and leaves of a stock's layout, by its number
 abbrev Stepped : {A : Type 0} → Counted → A → ℕ → Counted → Outcome A
-Stepped h a n h' = record { answer = a; bytes = stock_bytes (if eqb n 0 then h' else h) }
+Stepped h a n h' = record { answer = a; bytes = stock_bytes (if eqb n 0 then h' otherwise h) }
 
 module _ (h : Counted) (f : Fits h) where
-  laid : (n : ℕ) (h' : Counted) → (n ≡ 0 → Fits h') → (if eqb n 0 then lay h' (stock_bytes h) else stock_bytes h) ≡ stock_bytes (if eqb n 0 then h' else h)
+  laid : (n : ℕ) (h' : Counted) → (n ≡ 0 → Fits h') → (if eqb n 0 then lay h' (stock_bytes h) otherwise stock_bytes h) ≡ stock_bytes (if eqb n 0 then h' otherwise h)
   laid n h' k = go (eqb n 0) refl
     where
-      go : (b : Bool) → eqb n 0 ≡ b → (if eqb n 0 then lay h' (stock_bytes h) else stock_bytes h) ≡ stock_bytes (if eqb n 0 then h' else h)
+      go : (b : Bool) → eqb n 0 ≡ b → (if eqb n 0 then lay h' (stock_bytes h) otherwise stock_bytes h) ≡ stock_bytes (if eqb n 0 then h' otherwise h)
       go true q = simp (q, if_true) (lay_again h f h' (k (eqb-true n 0 q)))
       go false q = simp (q, if_false)
 
   pub telling_is : (m : Message) → (tells m h ≡ 0 → Fits (after m h)) → telling m (stock_bytes h) ≡ Stepped h (tell_answer m h) (tells m h) (after m h)
   unfolding telling
   telling_is m k =
-      ap (λ c. if shaped (stock_bytes h) then record { answer = tell_answer m c; bytes = if eqb (tells m c) 0 then lay (after m c) (stock_bytes h) else stock_bytes h }
-      else record { answer = zeros 1; bytes = stock_bytes h }) (read_again h)
+      ap (λ c. if shaped (stock_bytes h) then record { answer = tell_answer m c; bytes = if eqb (tells m c) 0 then lay (after m c) (stock_bytes h) otherwise stock_bytes h }
+      otherwise record { answer = zeros 1; bytes = stock_bytes h }) (read_again h)
       ∙ simp (in_shape_lem h f, if_true) (ap (λ x. record { answer = tell_answer m h; bytes = x }) (laid (tells m h) (after m h) k))
 
   pub settling_is : (time : ℕ) → (settles time h ≡ 0 → Fits (fire h)) → settling time (stock_bytes h) ≡ Stepped h (settle_answer time h) (settles time h) (fire h)
   unfolding settling
   settling_is time k =
-      ap (λ c. if shaped (stock_bytes h) then record { answer = settle_answer time c; bytes = if eqb (settles time c) 0 then lay (fire c) (stock_bytes h) else stock_bytes h }
-      else record { answer = no_notice 1; bytes = stock_bytes h }) (read_again h)
+      ap (λ c. if shaped (stock_bytes h) then record { answer = settle_answer time c; bytes = if eqb (settles time c) 0 then lay (fire c) (stock_bytes h) otherwise stock_bytes h }
+      otherwise record { answer = no_notice 1; bytes = stock_bytes h }) (read_again h)
       ∙ simp (in_shape_lem h f, if_true) (ap (λ x. record { answer = settle_answer time h; bytes = x }) (laid (settles time h) (fire h) k))
 
 reading_is : (h : Counted) → Fits h → reading (stock_bytes h) ≡ read_answer h
@@ -73,11 +73,11 @@ module _ (end : ℕ) (hs : List Counted) (all : Every Fits hs) (some : 1 ≤ len
       any_not _ _ (ne_eqb (length hs) 0 (λ z. omega (arith, z, some)))
       (any_not _ _ (le-ltb _ _ few) (any_not _ _ (eq_not places places refl) (any_not _ _ (eq_not places places refl) any_empty)))
 
-  pub first_number : (i : ℕ) → first (call_checks (length hs) places places i) ≡ (if ltb i (length hs) then 0 else 3)
+  pub first_number : (i : ℕ) → first (call_checks (length hs) places places i) ≡ (if ltb i (length hs) then 0 otherwise 3)
   unfolding call_checks first
   first_number i = simp (right_shape, if_false) (go (ltb i (length hs)) refl)
     where
-      go : (b : Bool) → ltb i (length hs) ≡ b → ◌≡◌ {A = ℕ} (if leb (length hs) i then 3 else 0) (if ltb i (length hs) then 0 else 3)
+      go : (b : Bool) → ltb i (length hs) ≡ b → ◌≡◌ {A = ℕ} (if leb (length hs) i then 3 otherwise 0) (if ltb i (length hs) then 0 otherwise 3)
       go true q = simp (q, if_true, lt-leb (length hs) i (ltb-true i (length hs) q), if_false)
       go false q = simp (q, if_false, le-leb (length hs) i (ltb-false i (length hs) q), if_true)
 
@@ -87,14 +87,14 @@ module _ (end : ℕ) (hs : List Counted) (all : Every Fits hs) (some : 1 ≤ len
   module _ {A : Type 0} (i : ℕ) (step : Bytes → Outcome A) (beside : ℕ → A) where
     -- the stock is there: its step's answer, and the layout with what the step makes of it
     pub called : (a : A) (n : ℕ) (h' : Counted) → i < length hs → step (stock_bytes (stock counting (blank end) hs i)) ≡ Stepped (stock counting (blank end) hs i) a n h'
-        → calling i step beside (layout hs) ≡ record { answer = a; book = layout (if eqb n 0 then set hs i h' else hs) }
+        → calling i step beside (layout hs) ≡ record { answer = a; book = layout (if eqb n 0 then set hs i h' otherwise hs) }
     unfolding calling
     called a n h' l e =
         let z : call_number i (layout hs) ≡ 0 = number_is i ∙ first_number i ∙ simp (lt-ltb i (length hs) l, if_true) in
         let s : step (bytes_of i (layout hs)) ≡ Stepped (stock counting (blank end) hs i) a n h' = rw (bytes_of_lem hs all i l (blank end)) e in
         simp (z, eq-eqb 0 0 refl, if_true, s, with_bytes_lem hs all i l) (ap (λ x. record { answer = a; book = layout x }) (go (eqb n 0) refl))
       where
-        go : (b : Bool) → eqb n 0 ≡ b → set hs i (if eqb n 0 then h' else stock counting (blank end) hs i) ≡ (if eqb n 0 then set hs i h' else hs)
+        go : (b : Bool) → eqb n 0 ≡ b → set hs i (if eqb n 0 then h' otherwise stock counting (blank end) hs i) ≡ (if eqb n 0 then set hs i h' otherwise hs)
         go true q = simp (q, if_true)
         go false q = simp (q, if_false) (set-get_or hs i (blank end))
 
@@ -141,12 +141,12 @@ module _ (end : ℕ) (hs : List Counted) (all : Every Fits hs) (some : 1 ≤ len
   ask_follows : {A : Type 0} (given : Bytes → A) (own : Counted → A) (beside : ℕ → A) → ((h : Counted) → Fits h → given (stock_bytes h) ≡ own h)
       → (i : ℕ) → (i < length hs → Fits (stock counting (blank end) hs i))
       → asking i given beside (layout hs)
-      ≡ (let number = first (call_checks (length hs) places places i) in if eqb number 0 then own (stock counting (blank end) hs i) else beside number)
+      ≡ (let number = first (call_checks (length hs) places places i) in if eqb number 0 then own (stock counting (blank end) hs i) otherwise beside number)
   unfolding asking
   ask_follows given own beside is i f = go (ltb i (length hs)) refl
     where
       go : (b : Bool) → ltb i (length hs) ≡ b → asking i given beside (layout hs)
-          ≡ (let number = first (call_checks (length hs) places places i) in if eqb number 0 then own (stock counting (blank end) hs i) else beside number)
+          ≡ (let number = first (call_checks (length hs) places places i) in if eqb number 0 then own (stock counting (blank end) hs i) otherwise beside number)
       go true q =
           let l = ltb-true i (length hs) q in
           let z : call_number i (layout hs) ≡ 0 = number_is i ∙ first_number i ∙ simp (q, if_true) in

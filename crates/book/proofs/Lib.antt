@@ -1,8 +1,4 @@
 pub mod Called
-pub mod Guarded
-pub mod Locals
-pub mod Values
-pub mod Walking
 pub mod Setups
 pub mod Calls
 pub mod Meaning

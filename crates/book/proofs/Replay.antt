@@ -9,7 +9,7 @@ use native.Mathlib.Omega.{arith}
 use borrow.Author.Tests.{eqb-true}
 use lib.Dec.{eqb}
 use lib.ListN.{length, get_or, length-map}
-use Rattle.forms.specs.Choice.{if◌then◌else◌, all_of}
+use Rattle.forms.specs.Choice.{if◌then◌otherwise◌, all_of}
 use Rattle.forms.specs.Words.{Some}
 use Rattle.rules.specs.Counted.{Counted, fresh, settles, tell_answer, settle_answer}
 use Rattle.rules.specs.Machine.{On, of, Every, journal, IsJournal, Call, tell, settle, number, Asked, number_of, Calls, stock, step_in, run, asked}
@@ -37,7 +37,7 @@ use Rattle.book.proofs.Alike.{number_0}
 
 module _ {A B : Type 0} (f : A → B) (m : A → ℕ) (n : B → ℕ) (e : (x : A) → n (f x) ≡ m x) where
   journal_map : (xs : List A) → journal n (map f xs) ≡ map f (journal m xs)
-  unfolding if◌then◌else◌
+  unfolding if◌then◌otherwise◌
   journal_map [] = refl
   journal_map (x ∷ xs) = go (eqb (m x) 0) refl (journal_map xs)
     where
@@ -73,15 +73,15 @@ given (settled_one time a ∷ xs) = a ∷ given xs
 
 -- one more of them
 one_called : (b : Bool) (x : MadeOne) (cs : List (Call Message)) (xs : List MadeOne) → cs ≡ called xs
-    → (if b then call_made x ∷ [] else []) ++ cs ≡ called (if b then x ∷ xs else xs)
-unfolding if◌then◌else◌
+    → (if b then call_made x ∷ [] otherwise []) ++ cs ≡ called (if b then x ∷ xs otherwise xs)
+unfolding if◌then◌otherwise◌
 one_called true x cs xs e = ap (λ l. call_made x ∷ l) e
 one_called false x cs xs e = e
 
 module _ (i : ℕ) where
   -- the notices of a stock are in its journal
   pub noticed_is : (cs : List Made) → noticed i cs ≡ given (journal_of i cs)
-  unfolding if◌then◌else◌ all_of
+  unfolding if◌then◌otherwise◌ all_of
   noticed_is [] = refl
   noticed_is (refused_setup end list a ∷ cs) = noticed_is cs
   noticed_is (told j m a ∷ cs) = go (eqb i j) refl (eqb a.number 0) refl (noticed_is cs)
@@ -102,7 +102,7 @@ module _ (i : ℕ) where
   noticed_is (totals_given j x ∷ cs) = noticed_is cs
 
   noticed_append : (cs ds : List Made) → noticed i (cs ++ ds) ≡ noticed i cs ++ noticed i ds
-  unfolding if◌then◌else◌ all_of
+  unfolding if◌then◌otherwise◌ all_of
   noticed_append [] ds = refl
   noticed_append (refused_setup end list a ∷ cs) ds = noticed_append cs ds
   noticed_append (told j m a ∷ cs) ds = noticed_append cs ds
@@ -182,11 +182,11 @@ module _ (end i : ℕ) where
 
   one_made : (hs : List Counted) (c : On (Call Message)) (x : MadeOne) (made : List MadeOne) (cs : Calls counting)
       → (i ≡ c.at → x ≡ answers c.it (stock counting (blank end) hs c.at)) → made ≡ replies (step_in counting (blank end) hs c) cs
-      → (if eqb i c.at then x ∷ made else made) ≡ replies hs (c ∷ cs)
-  unfolding of if◌then◌else◌
+      → (if eqb i c.at then x ∷ made otherwise made) ≡ replies hs (c ∷ cs)
+  unfolding of if◌then◌otherwise◌
   one_made hs c x made cs e k = go (eqb i c.at) refl
     where
-      go : (b : Bool) → eqb i c.at ≡ b → (if eqb i c.at then x ∷ made else made) ≡ replies hs (c ∷ cs)
+      go : (b : Bool) → eqb i c.at ≡ b → (if eqb i c.at then x ∷ made otherwise made) ≡ replies hs (c ∷ cs)
       go true q = rw (q, e (eqb-true i c.at q), k)
       go false q = rw (q, k)
 

@@ -19,7 +19,7 @@ use Rattle.rules.specs.declared.Setup.{Setup}
 use Rattle.stock.specs.View.{bytes, view}
 use Rattle.window.specs.Places.{trades}
 use Rattle.calls.specs.Parts.{part}
-use Rattle.calls.specs.Setup.{setups_of, record_of_lem, setup_number}
+use Rattle.calls.specs.Setup.{setups_of, record_of, setup_number}
 use Rattle.calls.specs.Words.{setup_in}
 use Rattle.calls.proofs.Setups.{setups_length, setups_are, fours}
 use Rattle.calls.proofs.InWords.{setup_number_is}
@@ -41,7 +41,7 @@ module _ (end : ℕ) (list : List ℕ) (b b' : Lent) (r : Answer) (e : SetsUp en
     pub number_0 : number_of end list b ≡ 0
     number_0 = sym (ap (λ (x : Answer). x.number) answered) ∙ q
 
-    pub started : b' ≡ lent (map (record_of_lem end) (setups_of list)) (replicate (length b.times) 0) (replicate (length b.prices) 0)
+    pub started : b' ≡ lent (map (record_of end) (setups_of list)) (replicate (length b.times) 0) (replicate (length b.prices) 0)
     unfolding setting
     started = ap (λ (o : Given Answer). o.book) e ∙ if_true _ _ _ (eq-eqb (number_of end list b) 0 number_0)
 
@@ -83,11 +83,11 @@ within [] i d c h = absurd (not-suc-le-zero h)
 within (x ∷ l) zero d c h = refl
 within (x ∷ l) (suc i) d c h = within l i d c (le_of_suc-le-suc h)
 
-record_of_lem : (end : ℕ) (us : List Setup) (i : ℕ) → i < length us → get_or (map (record_of_lem end) us) i no_record ≡ record_of_lem end (get_or us i no_setup)
-record_of_lem end us i h = within (map (record_of_lem end) us) i _ _ (rw (length-map us (record_of_lem end)) h) ∙ get_or-map (record_of_lem end) us i no_setup
+record_of_lem : (end : ℕ) (us : List Setup) (i : ℕ) → i < length us → get_or (map (record_of end) us) i no_record ≡ record_of end (get_or us i no_setup)
+record_of_lem end us i h = within (map (record_of end) us) i _ _ (rw (length-map us (record_of end)) h) ∙ get_or-map (record_of end) us i no_setup
 
 -- a record with no trade, whatever stands in its places
-fresh_view : (end : ℕ) (u : Setup) (ts ps : List ℕ) → view (bytes (record_of_lem end u) ts ps) ≡ fresh end u
+fresh_view : (end : ℕ) (u : Setup) (ts ps : List ℕ) → view (bytes (record_of end u) ts ps) ≡ fresh end u
 unfolding fresh numbers.fresh trades
 fresh_view end u ts ps = refl
 
@@ -103,9 +103,9 @@ starts end list b b' r e q =
     let n : length us ≡ length b.records = as_many end list b b' r e q in
     let is = started end list b b' r e q in
     let at : (i : ℕ) → i < length b.records → get_or us i no_setup ≡ setup_in list i = (setups_are list (length b.records) (four_each end list b b' r e q)).1 in
-    let kept : (i : ℕ) → i < length b.records → record_at i b' ≡ record_of_lem end (setup_in list i) =
-    λ i l. ap (record_at i) is ∙ record_of_lem end us i (rw n l) ∙ ap (record_of_lem end) (at i l) in (
-      rw is (length-map us (record_of_lem end) ∙ n),
+    let kept : (i : ℕ) → i < length b.records → record_at i b' ≡ record_of end (setup_in list i) =
+    λ i l. ap (record_at i) is ∙ record_of_lem end us i (rw n l) ∙ ap (record_of end) (at i l) in (
+      rw is (length-map us (record_of end) ∙ n),
       λ i l. (
         (one_meaning i b' _).1 (sym (ap (λ x. view (bytes x (part i b'.times) (part i b'.prices))) (kept i l) ∙ fresh_view end _ _ _)),
         λ j c k. (sym (ap (λ (x : Lent). get_or x.times (512 * i + j) 0) is ∙ zero_at (length b.times) (512 * i + j)), sym (ap (λ (x : Lent). get_or x.prices (512 * i + j) 0) is ∙ zero_at (length b.prices) (512 * i + j))),

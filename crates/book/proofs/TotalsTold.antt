@@ -1,21 +1,19 @@
 -- The totals in the records of a book are those that the rules keep along its stocks' stories.
 -- Assumes nothing.
-use Prim.Native.Nat.{ℕ, ◌<◌}
-use mathlib.Core.List.{List}
+use Prim.Native.Nat.{◌<◌}
 use mathlib.Core.Path.{◌≡◌, ap, ◌∙◌, subst}
 use native.Mathlib.Omega.{arith}
 use lib.ListN.{length, get_or, length-map}
 use Rattle.rules.specs.Counted.{fresh}
 use Rattle.rules.specs.Machine.{run}
-use Rattle.rules.specs.Book.{counting, no_setup, blank, book, now, story}
+use Rattle.rules.specs.Book.{counting, no_setup, blank, book, story}
 use Rattle.rules.specs.Demands.{Allowed, keeps}
-use Rattle.rules.specs.declared.Setup.{Setup}
 use Rattle.rules.proofs.Demands.{demands as rules}
 use Rattle.stock.specs.View.{Bytes}
 use Rattle.calls.specs.Setup.{setups_of}
 use Rattle.calls.specs.Words.{setup_in}
 use Rattle.calls.proofs.Setups.{setups_are, fours}
-use Rattle.book.specs.Lent.{Lent, bytes_of}
+use Rattle.book.specs.Lent.{bytes_of}
 use Rattle.book.specs.Words.{record_at}
 use Rattle.book.specs.Demands.{Family, calls, Demand2, TotalsTold}
 use Rattle.book.proofs.Alike.{number_0, records}

@@ -5,16 +5,16 @@ use mathlib.Core.List.{List, [], ◌∷◌, flatten}
 use mathlib.Core.Path.{◌≡◌, refl, sym, ap, ◌∙◌}
 use native.Mathlib.Omega.{arith}
 use lib.ListN.{length, get_or, replicate}
-use Rattle.forms.specs.Choice.{if◌then◌else◌, all_of, any_of}
+use Rattle.forms.specs.Choice.{if◌then◌otherwise◌, all_of, any_of}
 use Rattle.forms.specs.Checks.{first}
 use Rattle.band.specs.Band.{percent_of, factor_of, spread_of, cent, lower_of, upper_of, bands_of}
 use Rattle.rules.specs.Stock.{total, oldest, figures_of}
 use Rattle.rules.specs.Quotes.{in_force, k_time, bands_in, higher, lesser, best_bid, best_offer, bid_flag, offer_flag, best_of, flagged, crossed}
-use Rattle.rules.specs.States.{look, begin_trading_lem}
+use Rattle.rules.specs.States.{look, begin_trading}
 use Rattle.rules.specs.Moments.{moment_table, sooner, earliest, next, due_by, past_at}
 use Rattle.rules.specs.Messages.{taken, quote_rules, does, after}
 use Rattle.rules.specs.Numbers.{not_price, bad_end, bad_setup, bad_times, or_not_side, bad_quotes, not_reference, bad_reference, bad_trade, see, bad_trades, bad_stock, rubbish, out_of_range, not_primary, own_checks, message_checks, checks, tells, read_checks, reads, answer, fresh, or_bad_setup, bad_shape, call_checks, setup_checks, zeros}
-use Rattle.rules.specs.Totals.{wrong_totals, brought, longer, one_more_lem, begins_limit, in_pause, begins_pause, highest_with, lowest_with}
+use Rattle.rules.specs.Totals.{wrong_totals, brought, longer, one_more, begins_limit, in_pause, begins_pause, highest_with, lowest_with}
 use Rattle.rules.specs.Counted as counted
 use Rattle.rules.specs.Counted.{Counted}
 use Rattle.rules.specs.Machine.{tell, number_in, step_in, run}
@@ -49,11 +49,11 @@ end = 23_400_000
 
 -- it is set up; with a session's end of 0 it is not
 accepted : number_of end one used ≡ 0
-unfolding setup_number setup_checks bad_shape bad_end bad_setup or_bad_setup not_price first any_of all_of if◌then◌else◌ setups_of
+unfolding setup_number setup_checks bad_shape bad_end bad_setup or_bad_setup not_price first any_of all_of if◌then◌otherwise◌ setups_of
 accepted = refl
 
 not_accepted : number_of 0 one used ≡ 2
-unfolding setup_number setup_checks bad_shape bad_end bad_setup or_bad_setup not_price first any_of all_of if◌then◌else◌ setups_of
+unfolding setup_number setup_checks bad_shape bad_end bad_setup or_bad_setup not_price first any_of all_of if◌then◌otherwise◌ setups_of
 not_accepted = refl
 
 pub silent_fails : Demand1 silent → ⊥
@@ -70,7 +70,7 @@ fixed_fails x y u s d =
 
 -- the setup is answered 0 on the used book
 set_up : (setting end one used).answer ≡ zeros 0
-unfolding setting setup_number setup_checks bad_shape bad_end bad_setup or_bad_setup not_price first any_of all_of if◌then◌else◌ setups_of
+unfolding setting setup_number setup_checks bad_shape bad_end bad_setup or_bad_setup not_price first any_of all_of if◌then◌otherwise◌ setups_of
 set_up = refl
 
 pub leaving_fails : Demand2 leaving → ⊥
@@ -86,7 +86,7 @@ quoted = told 0 (Quote 1 0 0 0) (zeros 0) ∷ []
 
 -- it moves the clock
 moves : (get_or (layout (run counting (blank end) (book end (setups_of one)) (calls quoted))).records 0 no_record).stock.course.clock ≡ 1
-unfolding if◌then◌else◌ all_of any_of first total oldest figures_of in_force k_time bands_in look moment_table sooner earliest next due_by past_at taken quote_rules does after not_price bad_end bad_setup bad_times or_not_side bad_quotes not_reference bad_reference bad_trade see bad_trades bad_stock rubbish out_of_range not_primary own_checks message_checks checks tells fresh number_in step_in setups_of counted.fresh counted.or_wrong counted.after wrong_totals brought longer one_more_lem begins_limit in_pause begins_pause highest_with lowest_with
+unfolding if◌then◌otherwise◌ all_of any_of first total oldest figures_of in_force k_time bands_in look moment_table sooner earliest next due_by past_at taken quote_rules does after not_price bad_end bad_setup bad_times or_not_side bad_quotes not_reference bad_reference bad_trade see bad_trades bad_stock rubbish out_of_range not_primary own_checks message_checks checks tells fresh number_in step_in setups_of counted.fresh counted.or_wrong counted.after wrong_totals brought longer one_more begins_limit in_pause begins_pause highest_with lowest_with
 moves = refl
 
 pub acknowledging_fails : Demand2 acknowledging → ⊥
@@ -127,7 +127,7 @@ tells_apart :
     ((reads_in new).number ≡ 0) × ((reads_in opened).number ≡ 0) × ((reads_in new).state ≡ 0) × ((reads_in opened).state ≡ 1)
     × ((comes_in new).number ≡ 0) × ((comes_in opened).number ≡ 0) × ((comes_in new).time ≡ 300_000) × ((comes_in opened).time ≡ 30_001)
     × ((totals_in new).number ≡ 0) × ((totals_in opened).number ≡ 0) × ((totals_in new).totals.spent.waiting ≡ 0) × ((totals_in opened).totals.spent.waiting ≡ 1)
-unfolding if◌then◌else◌ all_of any_of first percent_of factor_of spread_of cent lower_of upper_of bands_of total oldest figures_of in_force k_time bands_in higher lesser best_bid best_offer bid_flag offer_flag best_of flagged crossed look begin_trading_lem moment_table sooner earliest next due_by past_at taken does after not_price bad_end bad_setup bad_times or_not_side bad_quotes not_reference bad_reference bad_trade see bad_trades bad_stock rubbish out_of_range not_primary own_checks message_checks checks tells read_checks reads answer fresh bad_shape call_checks number_in step_in book_reads book_next book_totals setups_of counted.fresh counted.or_wrong counted.after wrong_totals brought longer one_more_lem begins_limit in_pause begins_pause highest_with lowest_with counted.read_answer counted.next_answer counted.totals_answer
+unfolding if◌then◌otherwise◌ all_of any_of first percent_of factor_of spread_of cent lower_of upper_of bands_of total oldest figures_of in_force k_time bands_in higher lesser best_bid best_offer bid_flag offer_flag best_of flagged crossed look begin_trading moment_table sooner earliest next due_by past_at taken does after not_price bad_end bad_setup bad_times or_not_side bad_quotes not_reference bad_reference bad_trade see bad_trades bad_stock rubbish out_of_range not_primary own_checks message_checks checks tells read_checks reads answer fresh bad_shape call_checks number_in step_in book_reads book_next book_totals setups_of counted.fresh counted.or_wrong counted.after wrong_totals brought longer one_more begins_limit in_pause begins_pause highest_with lowest_with counted.read_answer counted.next_answer counted.totals_answer
 tells_apart = (refl, refl, refl, refl, refl, refl, refl, refl, refl, refl, refl, refl)
 
 -- the bytes of both

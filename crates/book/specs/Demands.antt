@@ -4,7 +4,7 @@
 -- src/lib.rt. They hold for any bytes: the promises have no requires clause.
 -- Assumes nothing.
 use Rattle.std.specs.Prelude.{ℕ, ◌*◌, ◌≤◌, ◌<◌, List, [], ◌∷◌, ◌++◌, map, ◌↔◌, ◌≡◌, eqb, length}
-use Rattle.forms.specs.Choice.{if◌then◌else◌, all_of}
+use Rattle.forms.specs.Choice.{if◌then◌otherwise◌, all_of}
 use Rattle.forms.specs.Promises.{Determines}
 use Rattle.forms.specs.Words.{◌and◌, Otherwise, Some, Gives}
 use Rattle.rules.specs.Machine.{Call, tell, settle, messages, notices, Calls, Every, journal, IsJournal, step_in, run}
@@ -158,7 +158,7 @@ pub record Demand2 (𝓕 : Family) : Type 0 where
 abbrev pub accepted : ℕ → List Made → List Message
 accepted i [] = []
 accepted i (refused_setup end list a ∷ cs) = accepted i cs
-accepted i (told j m a ∷ cs) = if all_of (eqb i j ∷ eqb a.number 0 ∷ []) then m ∷ accepted i cs else accepted i cs
+accepted i (told j m a ∷ cs) = if all_of (eqb i j ∷ eqb a.number 0 ∷ []) then m ∷ accepted i cs otherwise accepted i cs
 accepted i (settled j time a ∷ cs) = accepted i cs
 accepted i (was_read j a ∷ cs) = accepted i cs
 accepted i (next_given j u ∷ cs) = accepted i cs
@@ -169,7 +169,7 @@ abbrev pub noticed : ℕ → List Made → List Notice
 noticed i [] = []
 noticed i (refused_setup end list a ∷ cs) = noticed i cs
 noticed i (told j m a ∷ cs) = noticed i cs
-noticed i (settled j time a ∷ cs) = if all_of (eqb i j ∷ eqb a.answer.number 0 ∷ []) then a ∷ noticed i cs else noticed i cs
+noticed i (settled j time a ∷ cs) = if all_of (eqb i j ∷ eqb a.answer.number 0 ∷ []) then a ∷ noticed i cs otherwise noticed i cs
 noticed i (was_read j a ∷ cs) = noticed i cs
 noticed i (next_given j u ∷ cs) = noticed i cs
 noticed i (totals_given j x ∷ cs) = noticed i cs
@@ -347,8 +347,8 @@ called xs = map call_made xs
 abbrev pub made_of : ℕ → List Made → List MadeOne
 made_of i [] = []
 made_of i (refused_setup end list a ∷ cs) = made_of i cs
-made_of i (told j m a ∷ cs) = if eqb i j then told_one m a ∷ made_of i cs else made_of i cs
-made_of i (settled j time a ∷ cs) = if eqb i j then settled_one time a ∷ made_of i cs else made_of i cs
+made_of i (told j m a ∷ cs) = if eqb i j then told_one m a ∷ made_of i cs otherwise made_of i cs
+made_of i (settled j time a ∷ cs) = if eqb i j then settled_one time a ∷ made_of i cs otherwise made_of i cs
 made_of i (was_read j a ∷ cs) = made_of i cs
 made_of i (next_given j u ∷ cs) = made_of i cs
 made_of i (totals_given j x ∷ cs) = made_of i cs

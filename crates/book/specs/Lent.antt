@@ -1,7 +1,7 @@
 -- A book in memory, and what a call on it promises (document 01, "What the book holds", "Numbers given back").
 -- Assumes nothing.
 use Rattle.std.specs.Prelude.{ℕ, List, ◌≡◌, eqb, length, get_or, set}
-use Rattle.forms.specs.Choice.{if◌then◌else◌}
+use Rattle.forms.specs.Choice.{if◌then◌otherwise◌}
 use Rattle.forms.specs.Checks.{first}
 use Rattle.rules.specs.Numbers.{call_checks, zeros, none_coming, no_notice}
 use Rattle.rules.specs.Counted.{no_summary}
@@ -52,7 +52,7 @@ call_number i b = first (call_checks (length b.records) (length b.times) (length
 -- a call on stock i: what its step makes of its bytes, or a number with zeros beside it and every byte as it was
 unfoldable pub calling : {A : Type 0} → ℕ → (Bytes → Outcome A) → (ℕ → A) → Lent → Given A
 calling i step beside b =
-    if eqb (call_number i b) 0 then record { answer = (step (bytes_of i b)).answer; book = with_bytes i (step (bytes_of i b)).bytes b } else
+    if eqb (call_number i b) 0 then record { answer = (step (bytes_of i b)).answer; book = with_bytes i (step (bytes_of i b)).bytes b } otherwise
     record { answer = beside (call_number i b); book = b }
 
 -- the promise of telling stock i a message
@@ -65,7 +65,7 @@ SettlesIn i time b r b' = ◌≡◌ {A = Given Notice} (record { answer = r; boo
 
 -- a call on stock i that changes nothing: what its bytes give, or a number with zeros beside it
 unfoldable pub asking : {A : Type 0} → ℕ → (Bytes → A) → (ℕ → A) → Lent → A
-asking i given beside b = if eqb (call_number i b) 0 then given (bytes_of i b) else beside (call_number i b)
+asking i given beside b = if eqb (call_number i b) 0 then given (bytes_of i b) otherwise beside (call_number i b)
 
 -- the answer to reading stock i
 abbrev pub reading_in : ℕ → Lent → Answer

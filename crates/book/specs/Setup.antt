@@ -1,11 +1,11 @@
 -- The setup of a whole book, and what it promises (document 01, "What the book holds", "Numbers given back").
 -- Assumes nothing.
 use Rattle.std.specs.Prelude.{ℕ, List, map, ◌≡◌, eqb, length}
-use Rattle.forms.specs.Choice.{if◌then◌else◌}
+use Rattle.forms.specs.Choice.{if◌then◌otherwise◌}
 use Rattle.rules.specs.Numbers.{zeros}
 use Rattle.rules.specs.declared.Answer.{Answer}
 use Rattle.window.specs.Places.{wiped}
-use Rattle.calls.specs.Setup.{setups_of, record_of_lem, setup_number}
+use Rattle.calls.specs.Setup.{setups_of, record_of, setup_number}
 use Rattle.book.specs.Lent.{Lent, lent, Given}
 
 -- ------------------------------------------------------------------ what a setup gives and leaves
@@ -20,8 +20,8 @@ setting end list b = record {
   answer = zeros (number_of end list b);
   book =
       if eqb (number_of end list b) 0 then
-      lent (map (record_of_lem end) (setups_of list)) (wiped b.times) (wiped b.prices)
-      else b;
+      lent (map (record_of end) (setups_of list)) (wiped b.times) (wiped b.prices)
+      otherwise b;
 }
 
 -- the promise of a setup

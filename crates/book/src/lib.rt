@@ -1,6 +1,8 @@
 // The book: the caller lends an array of stock records and two arrays, trade times and trade prices, in which each
 // stock owns 512 places. `tell_one` and `settle_one` take one record with its part of both arrays instead. No
 // public function has a `requires`: for any bytes the promise gives the answer and every byte that the call leaves.
+#![tactic(auto)]
+
 ghost use Rattle.std.specs.Prelude.{◌≡◌};
 ghost use Rattle.stock.specs.View.{bytes, Tells, Settles};
 ghost use Rattle.book.specs.Lent.{lent, TellsIn, SettlesIn, reading_in, coming_in, totalling_in};

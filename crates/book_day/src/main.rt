@@ -1,7 +1,10 @@
 // Plays a day of a book of three stocks twice: the stocks get the same messages and settle to the same time, in
 // two orders, mixed with calls that are refused. Prints a line for each call and each moment, and after each day
 // a line for each stock's record: the records of both days agree.
+#![tactic(auto)]
+
 use rules::{Answer, Course, DONE, Message, PLACES, Setup};
+use std::io;
 use stock::Record;
 
 // How many of the eight records the book uses.
@@ -10,80 +13,80 @@ const STOCKS: usize = 3;
 // The time that both days settle to.
 const SETTLED: u32 = 302_000;
 
-fn print_number(n: u64) {
-    io::write_all(1, b" ");
-    io::print_decimal(1, n);
+fn print_number(rt: &impl Print, n: u64) -> io::Result<()> {
+    print!(rt; " {n}")
 }
 
 // Prints one line in the format of the day program.
-fn print_line(stock: u32, time: u32, letter: u8, a: Answer) {
+fn print_line(rt: &impl Print, stock: u32, time: u32, letter: u8, a: Answer) -> io::Result<()> {
     let bid = a.best.bid;
     let offer = a.best.offer;
     let text = [b' ', letter];
-    io::print_decimal(1, stock as u64);
-    print_number(time as u64);
-    io::write_all(1, &text);
-    print_number(a.number as u64);
-    print_number(a.state as u64);
-    print_number(a.reference as u64);
-    print_number(a.lower as u64);
-    print_number(a.upper as u64);
-    print_number(bid.price as u64);
-    print_number(bid.flag as u64);
-    print_number(offer.price as u64);
-    print_number(offer.flag as u64);
-    io::write_all(1, b"\n");
+    print!(rt; "{stock}")?;
+    print_number(rt, time as u64)?;
+    rt.write_all(&text)?;
+    print_number(rt, a.number as u64)?;
+    print_number(rt, a.state as u64)?;
+    print_number(rt, a.reference as u64)?;
+    print_number(rt, a.lower as u64)?;
+    print_number(rt, a.upper as u64)?;
+    print_number(rt, bid.price as u64)?;
+    print_number(rt, bid.flag as u64)?;
+    print_number(rt, offer.price as u64)?;
+    print_number(rt, offer.flag as u64)?;
+    rt.write_all(b"\n")
 }
 
-fn print_side(side: [u32; 16]) {
+fn print_side(rt: &impl Print, side: [u32; 16]) -> io::Result<()> {
     for i in 0..16 {
-        print_number(side[i] as u64);
+        print_number(rt, side[i] as u64)?;
     }
+    Ok(())
 }
 
-fn print_setup(u: Setup) {
-    print_number(u.tier as u64);
-    print_number(u.leverage as u64);
-    print_number(u.primary as u64);
-    print_number(u.close as u64);
+fn print_setup(rt: &impl Print, u: Setup) -> io::Result<()> {
+    print_number(rt, u.tier as u64)?;
+    print_number(rt, u.leverage as u64)?;
+    print_number(rt, u.primary as u64)?;
+    print_number(rt, u.close as u64)
 }
 
-fn print_course(c: Course) {
-    print_number(c.state as u64);
-    print_number(c.clock as u64);
-    print_number(c.early as u64);
-    print_number(c.entry as u64);
-    print_number(c.pause as u64);
+fn print_course(rt: &impl Print, c: Course) -> io::Result<()> {
+    print_number(rt, c.state as u64)?;
+    print_number(rt, c.clock as u64)?;
+    print_number(rt, c.early as u64)?;
+    print_number(rt, c.entry as u64)?;
+    print_number(rt, c.pause as u64)
 }
 
 // Prints every number of a record, in the order of its fields.
-fn print_record(r: Record) {
+fn print_record(rt: &impl Print, r: Record) -> io::Result<()> {
     let s = r.stock;
     let reference = s.reference;
     let quotes = s.quotes;
     let bids = quotes.bids;
     let offers = quotes.offers;
-    io::write_all(1, b"record");
-    print_setup(s.setup);
-    print_number(s.end as u64);
-    print_course(s.course);
-    print_number(reference.price.sum);
-    print_number(reference.price.count);
-    print_number(reference.start as u64);
-    print_number(reference.hold as u64);
-    print_side(bids);
-    print_side(offers);
-    print_number(r.count);
-    io::write_all(1, b"\n");
+    rt.write_all(b"record")?;
+    print_setup(rt, s.setup)?;
+    print_number(rt, s.end as u64)?;
+    print_course(rt, s.course)?;
+    print_number(rt, reference.price.sum)?;
+    print_number(rt, reference.price.count)?;
+    print_number(rt, reference.start as u64)?;
+    print_number(rt, reference.hold as u64)?;
+    print_side(rt, bids)?;
+    print_side(rt, offers)?;
+    print_number(rt, r.count)?;
+    rt.write_all(b"\n")
 }
 
-fn print_records(book: [Record; 8]) {
+fn print_records(rt: &impl Print, book: [Record; 8]) -> io::Result<()> {
     let a = book[0];
     let b = book[1];
     let c = book[2];
-    print_record(a);
-    print_record(b);
-    print_record(c);
+    print_record(rt, a)?;
+    print_record(rt, b)?;
+    print_record(rt, c)
 }
 
 // The calls by number: 0 to 2 open the stocks, 3 to 5 are their quotes, 6 to 8 their trades. The others are
@@ -159,90 +162,100 @@ fn message_of(call: u32) -> Message {
 
 // Settles a stock to a time, and prints each moment.
 fn settled(
+    rt: &impl Print,
     book: [Record; 8],
     times: &mut [u32],
     prices: &mut [u32],
     stock: u32,
     time: u32,
-) -> [Record; 8] {
+) -> io::Result<[Record; 8]> {
     let mut next = book;
     for i in 0..2_000u32 {
         let done = shelf::settle(next, STOCKS, times, prices, stock, time);
         let notice = done.notice;
         let answer = notice.answer;
         if answer.number != DONE {
-            return next;
+            return Ok(next);
         }
-        print_line(stock, notice.time, (notice.mark % 256) as u8, answer);
+        print_line(rt, stock, notice.time, (notice.mark % 256) as u8, answer)?;
         next = done.book;
     }
-    next
+    Ok(next)
 }
 
 // Settles a stock to a call's time, calls, and prints the answer.
-fn told(book: [Record; 8], times: &mut [u32], prices: &mut [u32], call: u32) -> [Record; 8] {
+fn told(
+    rt: &impl Print,
+    book: [Record; 8],
+    times: &mut [u32],
+    prices: &mut [u32],
+    call: u32,
+) -> io::Result<[Record; 8]> {
     let stock = stock_of(call);
     let time = time_of(call);
     let message = message_of(call);
-    let before = settled(book, times, prices, stock, time);
+    let before = settled(rt, book, times, prices, stock, time)?;
     let done = shelf::tell(before, STOCKS, times, prices, stock, message);
-    print_line(stock, time, letter_of(call), done.answer);
-    done.book
+    print_line(rt, stock, time, letter_of(call), done.answer)?;
+    Ok(done.book)
 }
 
 fn told_all(
+    rt: &impl Print,
     book: [Record; 8],
     times: &mut [u32],
     prices: &mut [u32],
     calls: &[u32],
-) -> [Record; 8] {
+) -> io::Result<[Record; 8]> {
     let mut next = book;
     for i in 0..calls.len() {
-        let after = told(next, times, prices, calls[i]);
+        let after = told(rt, next, times, prices, calls[i])?;
         next = after;
     }
-    next
+    Ok(next)
 }
 
 fn settled_all(
+    rt: &impl Print,
     book: [Record; 8],
     times: &mut [u32],
     prices: &mut [u32],
     stocks: &[u32],
-) -> [Record; 8] {
+) -> io::Result<[Record; 8]> {
     let mut next = book;
     for i in 0..stocks.len() {
-        let after = settled(next, times, prices, stocks[i], SETTLED);
+        let after = settled(rt, next, times, prices, stocks[i], SETTLED)?;
         next = after;
     }
-    next
+    Ok(next)
 }
 
 // Makes the calls and then settles the stocks, each in the given order.
 fn played(
+    rt: &impl Print,
     book: [Record; 8],
     times: &mut [u32],
     prices: &mut [u32],
     calls: &[u32],
     stocks: &[u32],
-) -> [Record; 8] {
-    let told = told_all(book, times, prices, calls);
-    settled_all(told, times, prices, stocks)
+) -> io::Result<[Record; 8]> {
+    let told = told_all(rt, book, times, prices, calls)?;
+    settled_all(rt, told, times, prices, stocks)
 }
 
 // Plays one day, from the setup to the printed records.
-fn day(calls: &[u32], stocks: &[u32]) {
+fn day(rt: &impl Print, calls: &[u32], stocks: &[u32]) -> io::Result<()> {
     let mut t = [0u32; STOCKS * PLACES];
     let mut p = [0u32; STOCKS * PLACES];
     let setups = [1, 1, 0, 100_000, 2, 1, 1, 110_000, 2, 3, 2, 120_000];
     let start = shelf::blank();
     let done = shelf::setup(start, STOCKS, &mut t, &mut p, 23_400_000, &setups);
     let fresh = done.book;
-    let book = played(fresh, &mut t, &mut p, calls, stocks);
-    print_records(book);
+    let book = played(rt, fresh, &mut t, &mut p, calls, stocks)?;
+    print_records(rt, book)
 }
 
-fn main() {
-    day(&[0, 1, 2, 9, 3, 4, 5, 10, 6, 7, 8, 11], &[0, 1, 2]);
-    day(&[2, 5, 8, 11, 0, 3, 9, 6, 1, 4, 7, 10], &[2, 0, 1]);
+fn main(rt: HostRuntime) -> io::Result<()> {
+    day(&rt, &[0, 1, 2, 9, 3, 4, 5, 10, 6, 7, 8, 11], &[0, 1, 2])?;
+    day(&rt, &[2, 5, 8, 11, 0, 3, 9, 6, 1, 4, 7, 10], &[2, 0, 1])
 }

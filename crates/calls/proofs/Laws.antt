@@ -1,16 +1,13 @@
 -- The laws of specs/Laws.antt.
 -- Assumes nothing.
-use Prim.Native.Nat.{ℕ}
-use mathlib.Core.List.{List}
-use mathlib.Core.Path.{◌≡◌, sym, ◌∙◌}
+use mathlib.Core.Path.{sym, ◌∙◌}
 use lib.ListN.{get_or}
 use Rattle.forms.specs.Checks.{first}
 use Rattle.forms.proofs.Promises.{agree}
 use Rattle.rules.specs.Book.{no_setup}
 use Rattle.rules.specs.Numbers.{call_checks, zeros}
-use Rattle.stock.specs.View.{bytes, Outcome, reading, coming, totalling}
-use Rattle.stock.specs.declared.Record.{Record}
-use Rattle.calls.specs.Parts.{part, Placed}
+use Rattle.stock.specs.View.{bytes, reading, coming, totalling}
+use Rattle.calls.specs.Parts.{part}
 use Rattle.calls.specs.Setup.{setups_of, record_of, setup_number}
 use Rattle.calls.specs.Laws.{Laws}
 use Rattle.calls.proofs.Parts.{part_is, part_put, part_put_other, put_part, length_put}

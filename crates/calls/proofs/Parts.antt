@@ -9,7 +9,7 @@ use native.Mathlib.Omega.{arith}
 use borrow.Author.Tests.{ltb-true, ltb-false, le-ltb}
 use borrow.Rule.Slice.PartMut.{mid_of, put_mid}
 use lib.Dec.{ltb}
-use lib.ListN.{length, get_or, take, drop, length-append, length-take, length-drop, take-append-drop}
+use lib.ListN.{length, take, drop, length-append, length-take, length-drop, take-append-drop}
 use lib.Seq.{length-take-le, get_or-take, get_or-drop, drop-drop, take_at, drop_at, take-append-le, drop-append-le}
 use Rattle.forms.specs.Choice.{any_of}
 use Rattle.forms.proofs.Bools.{or_any}

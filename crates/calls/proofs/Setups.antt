@@ -7,7 +7,7 @@ use mathlib.Core.Path.{◌≡◌, refl, sym, ◌∙◌, ap}
 use native.Mathlib.Omega.{arith}
 use borrow.Author.Tests.{ltb-false}
 use lib.ListN.{length, get_or, drop}
-use Rattle.forms.specs.Choice.{if◌then◌else◌}
+use Rattle.forms.specs.Choice.{if◌then◌otherwise◌}
 use Rattle.forms.specs.Checks.{Check, first}
 use Rattle.forms.specs.Checks.Check.{◌when◌}
 use Rattle.forms.proofs.Bools.{either}
@@ -80,7 +80,7 @@ setups_are list stocks e = (setups_length stocks list e, λ i l. sym (setup_at i
 -- ------------------------------------------------------------------ the judgement
 
 or_bad : (bad this : Bool) (u : Setup) → this ≡ bad_setup u → (bad || this) ≡ or_bad_setup bad u
-unfolding or_bad_setup if◌then◌else◌
+unfolding or_bad_setup if◌then◌otherwise◌
 or_bad true this u e = refl
 or_bad false this u e = e
 

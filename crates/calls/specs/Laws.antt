@@ -3,7 +3,7 @@
 use Rattle.std.specs.Prelude.{ℕ, ◌+◌, ◌*◌, ◌≤◌, ◌<◌, List, ◌≡◌, length, get_or}
 use Rattle.forms.specs.Checks.{first}
 use Rattle.forms.specs.Promises.{Determines}
-use Rattle.forms.specs.Words.{◌and◌, Gives}
+use Rattle.forms.specs.Words.{Gives}
 use Rattle.rules.specs.Book.{no_setup}
 use Rattle.rules.specs.Numbers.{call_checks, zeros}
 use Rattle.rules.specs.declared.Answer.{Answer}

@@ -3,6 +3,8 @@
 // is too short for the stock's part, a step gives 1 with zeros and changes nothing. A step that shows quotes first
 // copies those of its record array by array: copied as a whole, they would be copied again for each function that
 // is passed them (docs/ARCHITECTURE.md, "Inside stock").
+#![tactic(auto)]
+
 ghost use Rattle.std.specs.Prelude.{◌≡◌, get_or};
 ghost use Rattle.forms.specs.Checks.{first};
 ghost use Rattle.rules.specs.Book.{no_setup};

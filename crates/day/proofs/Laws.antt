@@ -12,7 +12,7 @@ use borrow.Author.Tests.{ltb-true, ltb-false, le-ltb, le-leb, ne_eqb}
 use lib.Dec.{leb, ltb, eqb}
 use lib.ListN.{length, get_or, set, take, drop, length-append, length-set, length-drop, get_or-append}
 use lib.Seq.{sets, get_or-append_seam, take_at, length-take-le, get_or-take, get_or-drop, get_or-set_same, get_or-set_other}
-use Rattle.forms.specs.Choice.{if◌then◌else◌, all_of}
+use Rattle.forms.specs.Choice.{if◌then◌otherwise◌, all_of}
 use Rattle.forms.specs.Words.{◌or◌, ◌and◌}
 use Rattle.forms.proofs.Choice.{if_true, if_false, all_yes, all_empty}
 use Rattle.forms.proofs.Decides.{Decides, words, exactly_where, reworded, never}
@@ -126,7 +126,7 @@ lowers bytes gone keep h = record { kept_first = moved bytes gone keep h; others
 -- ------------------------------------------------------------------ the message of a line
 
 messages : (stock time : ℕ) (rest : List ℕ) → Messages stock time rest
-unfolding spoken_of if◌then◌else◌
+unfolding spoken_of if◌then◌otherwise◌
 messages stock time rest = record {
   t_is = λ price. refl;
   q_is = λ participant bid offer. refl;
@@ -158,26 +158,26 @@ ended : Ended
 ended last f = (refl, (refl, (refl, refl)))
 
 quote_heard : QuoteHeard
-unfolding spoken_of if◌then◌else◌
+unfolding spoken_of if◌then◌otherwise◌
 quote_heard r p = rw (of_tape.read_determined _ r _ p of_tape.lines_are_read.1.1.1.0) refl
 
 -- ------------------------------------------------------------------ the lines ahead of the messages
 
 good_contents : GoodContents
-unfolding contents_of if◌then◌else◌
+unfolding contents_of if◌then◌otherwise◌
 good_contents letter stocks messages end rest = exactly_where (go (ltb 8 stocks) (ltb-true 8 stocks) (ltb-false 8 stocks))
   where
     few : Decides (all_of (eqb letter 67 ∷ ltb 0 stocks ∷ not (bad_end end) ∷ [])) (letter ≡ 67 and 0 < stocks and ¬ ¬ IsEnd end)
     few = search (words, end_is) depth 20
 
     go : (many : Bool) → (many ≡ true → 8 < stocks) → (many ≡ false → stocks ≤ 8)
-        → Decides (if many then too_many else record { good = all_of (eqb letter 67 ∷ ltb 0 stocks ∷ not (bad_end end) ∷ []); stocks = stocks; messages = messages; end = end }).good
+        → Decides (if many then too_many otherwise record { good = all_of (eqb letter 67 ∷ ltb 0 stocks ∷ not (bad_end end) ∷ []); stocks = stocks; messages = messages; end = end }).good
         (letter ≡ 67 and 1 ≤ stocks and stocks ≤ 8 and IsEnd end)
     go true h k = never _ (λ w. let q = h refl in let l = w.1.1.0 in omega arith)
     go false h k = reworded ((λ w. (w.0, (w.1.0, (k refl, in_end end w.1.1)))), (λ w. (w.0, (w.1.0, (λ n. n w.1.1.1))))) few
 
 says_contents : SaysContents
-unfolding contents_of if◌then◌else◌
+unfolding contents_of if◌then◌otherwise◌
 says_contents letter stocks messages end rest h = rw (le-ltb 8 stocks h) (refl, (refl, refl))
 
 which_setup : WhichSetup
@@ -256,7 +256,7 @@ line_is_put bytes at stock time letter a h k = go (ltb (length bytes - at) 380) 
 
     go : (full : Bool) → (full ≡ true → length bytes - at < 380) → (full ≡ false → 380 ≤ length bytes - at)
         → let text = printed stock time letter (printed_of a) in
-        let place = if full then 0 else at in
+        let place = if full then 0 otherwise at in
         (at + 380 ≤ length bytes → place ≡ at) and (length bytes < at + 380 → place ≡ 0)
         and printing bytes place stock time letter (printed_of a) ≡ record { to = place + length text; bytes = sets bytes place text }
     go true s l = ((λ q. absurd (let m = s refl in omega arith)), ((λ _. if_true true 0 at refl), rw (if_true true 0 at refl) (if_true _ _ _ (room 0 h))))

@@ -1,7 +1,7 @@
 -- What the lines ahead of the messages say (document 01, "The day program").
 -- Assumes nothing.
 use Rattle.std.specs.Prelude.{ℕ, ◌+◌, ◌*◌, Bool, false, not, List, [], ◌∷◌, ltb, eqb, get_or, set}
-use Rattle.forms.specs.Choice.{if◌then◌else◌, all_of}
+use Rattle.forms.specs.Choice.{if◌then◌otherwise◌, all_of}
 use Rattle.rules.specs.Numbers.{bad_end, bad_setup}
 use Rattle.rules.specs.declared.Setup.{Setup}
 use Rattle.tape.specs.declared.Line.{Line}
@@ -16,7 +16,7 @@ unfoldable pub contents_of : Line → Contents
 contents_of line =
     let stocks = get_or line.numbers 0 0 in
     let end = get_or line.numbers 2 0 in
-    if ltb 8 stocks then too_many else
+    if ltb 8 stocks then too_many otherwise
     record { good = all_of (eqb line.letter 67 ∷ ltb 0 stocks ∷ not (bad_end end) ∷ []); stocks = stocks; messages = get_or line.numbers 1 0; end = end }
 
 -- the setup that "`S tier leverage primary close`" says

@@ -1,7 +1,7 @@
 -- What is printed of an answer, and where in the output's block (document 01, "The day program").
 -- Assumes nothing.
 use Rattle.std.specs.Prelude.{ℕ, ◌-◌, ◌%◌, List, [], ◌∷◌, ltb, length}
-use Rattle.forms.specs.Choice.{if◌then◌else◌}
+use Rattle.forms.specs.Choice.{if◌then◌otherwise◌}
 use Rattle.rules.specs.declared.Answer.{Answer}
 use Rattle.tape.specs.Printing.{Printed, printing}
 
@@ -18,7 +18,7 @@ printed_of a =
 -- the place of the next line in a block of so many bytes: after the pending output, or, where the line might not fit there, at the front once
 -- that is written
 unfoldable pub place_of : ℕ → ℕ → ℕ
-place_of size at = if ltb (size - at) 380 then 0 else at
+place_of size at = if ltb (size - at) 380 then 0 otherwise at
 
 -- the block with the line of an answer in it
 abbrev pub put_of : List ℕ → ℕ → ℕ → ℕ → ℕ → Answer → Printed

@@ -1,7 +1,7 @@
 -- Which message a line is (document 01, "The day program").
 -- Assumes nothing.
 use Rattle.std.specs.Prelude.{ℕ, false, List, eqb, get_or}
-use Rattle.forms.specs.Choice.{if◌then◌else◌}
+use Rattle.forms.specs.Choice.{if◌then◌otherwise◌}
 use Rattle.rules.specs.declared.Message.{Message}
 use Rattle.rules.specs.declared.Message.TheVariants.{Trade, Quote, Opening, Pause, Reopening, Closing}
 use Rattle.tape.specs.declared.Line.{Line}
@@ -17,12 +17,12 @@ spoken_of numbers letter =
     let time = get_or numbers 1 0 in
     let third = get_or numbers 2 0 in
     let fourth = get_or numbers 3 0 in
-    if eqb letter 84 then Said (Trade time third) else
-    if eqb letter 81 then Said (Quote time third fourth (get_or numbers 4 0)) else
-    if eqb letter 79 then Said (Opening time third fourth) else
-    if eqb letter 80 then Said (Pause time third) else
-    if eqb letter 82 then Said (Reopening time third fourth) else
-    if eqb letter 88 then Said (Closing time third fourth) else Nothing
+    if eqb letter 84 then Said (Trade time third) otherwise
+    if eqb letter 81 then Said (Quote time third fourth (get_or numbers 4 0)) otherwise
+    if eqb letter 79 then Said (Opening time third fourth) otherwise
+    if eqb letter 80 then Said (Pause time third) otherwise
+    if eqb letter 82 then Said (Reopening time third fourth) otherwise
+    if eqb letter 88 then Said (Closing time third fourth) otherwise Nothing
 
 -- the day at a line that says a message: "letter, stock, time"; it goes on while the output takes what is written
 abbrev pub day_at : Line → Message → ℕ → ℕ → Flow → Day

@@ -5,13 +5,14 @@ ghost use Rattle.day.specs.Flow.{Within, Same, reach_of, Sees, lowered, found_of
 ghost use Rattle.day.specs.Printed.{printed_of, place_of, put_of};
 
 use rules::Answer;
+use std::io::{Read, Write};
 use tape::Line;
 
 // A line of the input has at most this many bytes, with its line feed.
 const LONGEST: usize = tape::LONGEST_LINE + 1;
 
 // The positions in both blocks.
-#[derive(Drop)]
+#[derive(Clone, Copy)]
 pub struct Flow {
     // the unread bytes of the input's block: `from` up to `to`
     pub from: usize,
@@ -23,7 +24,7 @@ pub struct Flow {
 }
 
 // The next line if one was found, and where the line after it begins.
-#[derive(Drop)]
+#[derive(Clone, Copy)]
 pub struct Seen {
     pub found: bool,
     pub line: Line,
@@ -31,7 +32,7 @@ pub struct Seen {
 }
 
 // A line, and the positions after it.
-#[derive(Drop)]
+#[derive(Clone, Copy)]
 pub struct Taken {
     pub line: Line,
     pub flow: Flow,
@@ -84,12 +85,12 @@ fn lower(bytes: &mut [u8], gone: usize, keep: usize)
 }
 
 // Writes the pending output.
-pub(crate) fn flush(output: &[u8], f: Flow) -> Flow
+pub(crate) fn flush<W: Write>(writer: &mut W, output: &[u8], f: Flow) -> Flow
     requires { f.at ≤ length output.now }
     ensures { (result.at ≡ 0) × (result.from ≡ f.from) × (result.to ≡ f.to) }
 {
     let at = f.at;
-    let all = io::write_all(1, &output[..at]);
+    let all = writer.write_all(&output[..at]).is_ok();
     Flow {
         from: f.from,
         to: f.to,
@@ -99,14 +100,13 @@ pub(crate) fn flush(output: &[u8], f: Flow) -> Flow
 }
 
 // Moves the unread bytes to the front of the block, and reads once into the room after them.
-fn refill(input: &mut [u8], f: Flow) -> Flow
+fn refill<R: Read>(reader: &mut R, input: &mut [u8], f: Flow) -> Flow
     requires { (f.from ≤ f.to) × (f.to ≤ length input.old) }
     ensures { (result.at ≡ f.at) × (result.from ≡ 0) × (result.to ≤ length input.old) }
 {
     let n = f.to - f.from;
     lower(input, f.from, n);
-    let got = libc::read(0, &mut input[n..]);
-    let more = io::count(got, &input[n..]);
+    let more = reader.read(&mut input[n..]).unwrap_or(0);
     Flow {
         from: 0,
         to: n + more,
@@ -116,18 +116,24 @@ fn refill(input: &mut [u8], f: Flow) -> Flow
 }
 
 // Flushes the output and reads more input, unless the unread bytes are already too long for a line.
-fn more(input: &mut [u8], output: &[u8], f: Flow) -> Flow
+fn more<R: Read, W: Write>(
+    reader: &mut R,
+    writer: &mut W,
+    input: &mut [u8],
+    output: &[u8],
+    f: Flow,
+) -> Flow
     requires { Within f (length input.old) (length output.now) }
     ensures { Within result (length input.old) (length output.now) }
 {
     if LONGEST <= f.to - f.from {
         return f;
     }
-    let written = flush(output, f);
+    let written = flush(writer, output, f);
     if !written.live {
         return written;
     }
-    refill(input, written)
+    refill(reader, input, written)
 }
 
 // The result where no line can be read.
@@ -154,7 +160,13 @@ fn found(line: Line, next: usize, f: Flow) -> Taken
 }
 
 // The next line; an unreadable one where there is none or it is too long.
-pub(crate) fn next_line(input: &mut [u8], output: &[u8], flow: Flow) -> Taken
+pub(crate) fn next_line<R: Read, W: Write>(
+    reader: &mut R,
+    writer: &mut W,
+    input: &mut [u8],
+    output: &[u8],
+    flow: Flow,
+) -> Taken
     requires { Within flow (length input.old) (length output.now) }
     ensures { Within result.flow (length input.old) (length output.now) }
 {
@@ -165,7 +177,7 @@ pub(crate) fn next_line(input: &mut [u8], output: &[u8], flow: Flow) -> Taken
             return found(seen.line, seen.next, f);
         }
         let had = f.to - f.from;
-        f = more(input, output, f);
+        f = more(reader, writer, input, output, f);
         if f.to - f.from <= had {
             return missing(f);
         }
@@ -174,13 +186,13 @@ pub(crate) fn next_line(input: &mut [u8], output: &[u8], flow: Flow) -> Taken
 }
 
 // Makes room for a line: flushes the output's block where a line might not fit.
-fn with_room(output: &[u8], f: Flow) -> Flow
+fn with_room<W: Write>(writer: &mut W, output: &[u8], f: Flow) -> Flow
     requires { f.at ≤ length output.now }
     ensures at_in_bounds { (result.at ≤ length output.now) × (result.from ≡ f.from) × (result.to ≡ f.to) }
     ensures at_value { result.at ≡ place_of (length output.now) f.at }
 {
     if output.len() - f.at < tape::LONGEST_PRINTED {
-        return flush(output, f);
+        return flush(writer, output, f);
     }
     f
 }
@@ -205,7 +217,8 @@ fn numbers_of(a: Answer) -> [u64; 9]
 }
 
 // Puts a line into the output's block.
-pub(crate) fn put(
+pub(crate) fn put<W: Write>(
+    writer: &mut W,
     output: &mut [u8],
     flow: Flow,
     stock: u32,
@@ -218,7 +231,7 @@ pub(crate) fn put(
     ensures output_after { record { to = result.at; bytes = output.new } ≡ put_of output.old flow.at stock time letter a }
 {
     let numbers = numbers_of(a);
-    let f = with_room(output, flow);
+    let f = with_room(writer, output, flow);
     let at = tape::print(output, f.at, stock as u64, time as u64, letter, &numbers);
     Flow {
         from: f.from,

@@ -1,5 +1,7 @@
 // The day program of document 01, for up to eight stocks: reads a day's messages from standard input, and prints a
 // line for each message and for each moment that is due before it.
+#![tactic(auto)]
+
 mod flow;
 
 ghost use Rattle.std.specs.Prelude.{◌≡◌, ◌≤◌, ◌<◌, length};
@@ -10,6 +12,7 @@ ghost use Rattle.day.specs.Printed.{mark_of};
 
 use flow::Flow;
 use rules::{DONE, Message, PLACES, SETUP_NUMBERS, Setup};
+use std::io::{Read, Write};
 use stock::Record;
 use tape::Line;
 
@@ -20,14 +23,14 @@ const DAY_STOCKS: u32 = 8;
 const DAY_PLACES: usize = DAY_STOCKS as usize * PLACES;
 
 // The message of a line, if it has one.
-#[derive(Drop)]
+#[derive(Clone, Copy)]
 enum Spoken {
     Said { message: Message },
     Nothing,
 }
 
 // How far the day has been read.
-#[derive(Drop)]
+#[derive(Clone, Copy)]
 struct Day {
     // the next message, if the day goes on
     letter: u8,
@@ -42,7 +45,7 @@ struct Day {
 }
 
 // The content of the lines before the messages.
-#[derive(Drop)]
+#[derive(Clone, Copy)]
 struct Opened {
     good: bool,
     // the number of the last of these lines, or of the one that cannot be read
@@ -51,7 +54,7 @@ struct Opened {
 }
 
 // The content of the first line.
-#[derive(Drop)]
+#[derive(Clone, Copy)]
 struct Contents {
     good: bool,
     stocks: u32,
@@ -159,14 +162,12 @@ fn heard(line: Line) -> Spoken
 }
 
 // Flushes the complete lines, and then reports which line cannot be read.
-fn bad(output: &[u8], f: Flow, line: u64)
+fn bad<W: Write>(writer: &mut W, output: &[u8], f: Flow, line: u64)
     requires { f.at ≤ length output.now }
 {
-    let written = flow::flush(output, f);
+    let written = flow::flush(writer, output, f);
     if written.live {
-        io::write_all(1, b"BAD ");
-        io::print_decimal(1, line);
-        io::write_all(1, b"\n");
+        let _ = writeln!(writer, "BAD {line}");
     }
 }
 
@@ -211,15 +212,23 @@ fn at_message(line: Line, message: Message, last: u64, left: u32, flow: Flow) ->
 
 // Reads the next message. Ends the day after the last message, at a line that cannot be read, and where the output
 // is closed.
-fn next_message(input: &mut [u8], output: &[u8], last: u64, left: u32, flow: Flow) -> Day
+fn next_message<R: Read, W: Write>(
+    reader: &mut R,
+    writer: &mut W,
+    input: &mut [u8],
+    output: &[u8],
+    last: u64,
+    left: u32,
+    flow: Flow,
+) -> Day
     requires { Underway last left flow (length input.old) (length output.now) }
     ensures { Underway result.last result.left result.flow (length input.old) (length output.now) }
 {
     if left == 0 {
-        let written = flow::flush(output, flow);
+        let written = flow::flush(writer, output, flow);
         return ended(last, written);
     }
-    let taken = flow::next_line(input, output, flow);
+    let taken = flow::next_line(reader, writer, input, output, flow);
     let line = taken.line;
     let behind = taken.flow;
     let said = heard(line);
@@ -227,7 +236,7 @@ fn next_message(input: &mut [u8], output: &[u8], last: u64, left: u32, flow: Flo
         return at_message(line, message, last, left - 1, behind);
     }
     let number = last - left as u64 + 1;
-    bad(output, behind, number);
+    bad(writer, output, behind, number);
     ended(last, behind)
 }
 
@@ -251,7 +260,9 @@ fn with_flow(d: Day, flow: Flow) -> Day
 
 // Plays the messages. A turn settles one moment that is due by the message's time, or, where none is, tells the
 // message and reads the next.
-fn play(
+fn play<R: Read, W: Write>(
+    reader: &mut R,
+    writer: &mut W,
     input: &mut [u8],
     output: &mut [u8],
     times: &mut [u32],
@@ -275,7 +286,15 @@ fn play(
         let answer = notice.answer;
         if answer.number == DONE {
             let mark = notice.mark;
-            let after = flow::put(output, flow, stock, notice.time, mark_of(mark), answer);
+            let after = flow::put(
+                writer,
+                output,
+                flow,
+                stock,
+                notice.time,
+                mark_of(mark),
+                answer,
+            );
             let next = settled.book;
             book = next;
             d = with_flow(d, after);
@@ -283,21 +302,29 @@ fn play(
         }
         let message = d.message;
         let told = shelf::tell(book, n, times, prices, stock, message);
-        let after = flow::put(output, flow, stock, d.time, d.letter, told.answer);
+        let after = flow::put(writer, output, flow, stock, d.time, d.letter, told.answer);
         let next = told.book;
         book = next;
-        d = next_message(input, output, d.last, d.left, after);
+        d = next_message(reader, writer, input, output, d.last, d.left, after);
     }
 }
 
 // Reads the setups of n stocks, and lists their numbers.
-fn setups(input: &mut [u8], output: &[u8], list: &mut [u32], flow: Flow, n: u32) -> Opened
+fn setups<R: Read, W: Write>(
+    reader: &mut R,
+    writer: &mut W,
+    input: &mut [u8],
+    output: &[u8],
+    list: &mut [u32],
+    flow: Flow,
+    n: u32,
+) -> Opened
     requires { (n ≤ 8) × (length list.old ≡ 32) × Within flow (length input.old) (length output.now) }
     ensures { (result.lines ≤ 9) × Within result.flow (length input.old) (length output.now) }
 {
     let mut f = flow;
     for i in 0..n {
-        let taken = flow::next_line(input, output, f);
+        let taken = flow::next_line(reader, writer, input, output, f);
         let line = taken.line;
         f = taken.flow;
         if !is_setup(line) {
@@ -317,7 +344,9 @@ fn setups(input: &mut [u8], output: &[u8], list: &mut [u32], flow: Flow, n: u32)
 }
 
 // Sets the book up, and plays the day.
-fn start(
+fn start<R: Read, W: Write>(
+    reader: &mut R,
+    writer: &mut W,
     input: &mut [u8],
     output: &mut [u8],
     times: &mut [u32],
@@ -331,15 +360,25 @@ fn start(
     let n = contents.stocks as usize;
     let messages = contents.messages;
     let last = opened.lines as u64 + messages as u64;
-    let first = next_message(input, output, last, messages, opened.flow);
+    let first = next_message(reader, writer, input, output, last, messages, opened.flow);
     let records = shelf::blank();
     let done = shelf::setup(records, n, times, prices, contents.end, list);
     let fresh = done.book;
-    play(input, output, times, prices, fresh, n, first);
+    play(
+        reader, writer, input, output, times, prices, fresh, n, first,
+    );
 }
 
 // Lends the book its places: 512 of each array for each stock.
-fn lend(input: &mut [u8], output: &mut [u8], list: &[u32], contents: Contents, opened: Opened)
+fn lend<R: Read, W: Write>(
+    reader: &mut R,
+    writer: &mut W,
+    input: &mut [u8],
+    output: &mut [u8],
+    list: &[u32],
+    contents: Contents,
+    opened: Opened,
+)
     requires { (contents.stocks ≤ 8) × (length list.now ≡ 32) × (opened.lines ≤ 9) × Within opened.flow (length input.old) (length output.old) }
 {
     let mut times = [0; DAY_PLACES];
@@ -348,6 +387,8 @@ fn lend(input: &mut [u8], output: &mut [u8], list: &[u32], contents: Contents, o
     let places = PLACES * n;
     let fields = SETUP_NUMBERS * n;
     start(
+        reader,
+        writer,
         input,
         output,
         &mut times[..places],
@@ -358,7 +399,9 @@ fn lend(input: &mut [u8], output: &mut [u8], list: &[u32], contents: Contents, o
     );
 }
 
-fn main() {
+fn main(rt: HostRuntime) {
+    let mut reader = rt.stdin();
+    let mut writer = rt.stdout();
     let mut input = [0u8; 32768];
     let mut output = [0u8; 32768];
     let mut list = [0u32; 32];
@@ -368,16 +411,32 @@ fn main() {
         at: 0,
         live: true,
     };
-    let taken = flow::next_line(&mut input, &output, flow);
+    let taken = flow::next_line(&mut reader, &mut writer, &mut input, &output, flow);
     let contents = contents_of(taken.line);
     if !contents.good {
-        bad(&output, taken.flow, 1);
+        bad(&mut writer, &output, taken.flow, 1);
         return;
     }
-    let opened = setups(&mut input, &output, &mut list, taken.flow, contents.stocks);
+    let opened = setups(
+        &mut reader,
+        &mut writer,
+        &mut input,
+        &output,
+        &mut list,
+        taken.flow,
+        contents.stocks,
+    );
     if !opened.good {
-        bad(&output, opened.flow, opened.lines as u64);
+        bad(&mut writer, &output, opened.flow, opened.lines as u64);
         return;
     }
-    lend(&mut input, &mut output, &list, contents, opened);
+    lend(
+        &mut reader,
+        &mut writer,
+        &mut input,
+        &mut output,
+        &list,
+        contents,
+        opened,
+    );
 }

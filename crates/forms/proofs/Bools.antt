@@ -3,17 +3,17 @@
 use mathlib.Core.Bool.{Bool, true, false, not, ◌&&◌, ◌||◌, and-true, and_assoc, or-false, or_assoc}
 use mathlib.Core.List.{List, [], ◌∷◌}
 use mathlib.Core.Path.{◌≡◌, refl, sym, ◌∙◌}
-use Rattle.forms.specs.Choice.{if◌then◌else◌, all_of, any_of}
+use Rattle.forms.specs.Choice.{if◌then◌otherwise◌, all_of, any_of}
 use Rattle.forms.proofs.Choice.{all_empty, any_empty, by_true, by_false, tests}
 use Rattle.forms.proofs.Checks.{firsts}
 
 pub all_and : (b : Bool) (bs : List Bool) → all_of (b ∷ bs) ≡ (b && all_of bs)
-unfolding all_of if◌then◌else◌
+unfolding all_of if◌then◌otherwise◌
 all_and true bs = refl
 all_and false bs = refl
 
 pub any_or : (b : Bool) (bs : List Bool) → any_of (b ∷ bs) ≡ (b || any_of bs)
-unfolding any_of if◌then◌else◌
+unfolding any_of if◌then◌otherwise◌
 any_or true bs = refl
 any_or false bs = refl
 
@@ -43,7 +43,7 @@ not_no b e = rw e
 -- ------------------------------------------------------------------ what proofs hand to `search`
 
 -- the returns of a function that branches on `&`
-pub ruleset both-tests = (both, tests)
+pub ruleset both_tests = (both, tests)
 
 -- the returns of a row of refusals by what calls answered: `search refusals depth 20`
 pub ruleset refusals = (firsts, by_true, by_false, not_yes, not_no)

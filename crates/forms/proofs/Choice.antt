@@ -8,24 +8,24 @@ use borrow.Author.Tests.{lt-ltb, le-ltb, le-leb, lt-leb, eq-eqb, ne_eqb, leb-tru
 use lib.Dec.{leb, eqb}
 use native.Mathlib.Nat.{min-eq_left, min-eq_right, max-eq_left, max-eq_right, le_of_lt}
 use native.Mathlib.Omega.{arith}
-use Rattle.forms.specs.Choice.{if◌then◌else◌, all_of, any_of}
+use Rattle.forms.specs.Choice.{if◌then◌otherwise◌, all_of, any_of}
 
 -- ------------------------------------------------------------------ a choice
 
-pub if_true : {A : Type 0} (b : Bool) (x y : A) → b ≡ true → (if b then x else y) ≡ x
-unfolding if◌then◌else◌
+pub if_true : {A : Type 0} (b : Bool) (x y : A) → b ≡ true → (if b then x otherwise y) ≡ x
+unfolding if◌then◌otherwise◌
 if_true b x y e = rw e
 
-pub if_false : {A : Type 0} (b : Bool) (x y : A) → b ≡ false → (if b then x else y) ≡ y
-unfolding if◌then◌else◌
+pub if_false : {A : Type 0} (b : Bool) (x y : A) → b ≡ false → (if b then x otherwise y) ≡ y
+unfolding if◌then◌otherwise◌
 if_false b x y e = rw e
 
 -- the arm that the code went
 module _ {A : Type 0} (b : Bool) (r x y : A) where
-  pub goes : b ≡ true → r ≡ x → r ≡ (if b then x else y)
+  pub goes : b ≡ true → r ≡ x → r ≡ (if b then x otherwise y)
   goes e q = q ∙ sym (if_true b x y e)
 
-  pub passes : b ≡ false → r ≡ y → r ≡ (if b then x else y)
+  pub passes : b ≡ false → r ≡ y → r ≡ (if b then x otherwise y)
   passes e q = q ∙ sym (if_false b x y e)
 
 -- the arm of a match that the code went: `search (by_case rule)`, and `by_case_of` for a rule that has another argument first
@@ -36,8 +36,8 @@ pub by_case_of : {P A B : Type 0} (rule : P → A → B) (p : P) (m n : A) (r : 
 by_case_of rule p m n r e q = rw e q
 
 -- what holds of each arm where it is chosen holds of the choice
-pub if_arms : {A : Type 0} (P : A → Type 0) (b : Bool) {x y : A} → (b ≡ true → P x) → (b ≡ false → P y) → P (if b then x else y)
-unfolding if◌then◌else◌
+pub if_arms : {A : Type 0} (P : A → Type 0) (b : Bool) {x y : A} → (b ≡ true → P x) → (b ≡ false → P y) → P (if b then x otherwise y)
+unfolding if◌then◌otherwise◌
 if_arms P true p q = p refl
 if_arms P false p q = q refl
 
@@ -66,19 +66,19 @@ by_false x b e q = rw e at q
 -- ------------------------------------------------------------------ all of the tests, one of the tests
 
 -- where both hold, each does
-pub if_yes : (a b : Bool) → (if a then b else false) ≡ true → (a ≡ true) × (b ≡ true)
-unfolding if◌then◌else◌
+pub if_yes : (a b : Bool) → (if a then b otherwise false) ≡ true → (a ≡ true) × (b ≡ true)
+unfolding if◌then◌otherwise◌
 if_yes true b e = (refl, e)
 if_yes false b e = absurd (false≢true e)
 
 -- where not one holds, each does not
-pub if_no : (a b : Bool) → (if a then true else b) ≡ false → (a ≡ false) × (b ≡ false)
-unfolding if◌then◌else◌
+pub if_no : (a b : Bool) → (if a then true otherwise b) ≡ false → (a ≡ false) × (b ≡ false)
+unfolding if◌then◌otherwise◌
 if_no true b e = absurd (false≢true (sym e))
 if_no false b e = (refl, e)
 
 pub all_yes : (b : Bool) (bs : List Bool) → b ≡ true → all_of bs ≡ true → all_of (b ∷ bs) ≡ true
-unfolding all_of if◌then◌else◌
+unfolding all_of if◌then◌otherwise◌
 all_yes b bs e q = rw e q
 
 pub all_empty : all_of [] ≡ true
@@ -86,11 +86,11 @@ unfolding all_of
 all_empty = refl
 
 pub all_not_here : (b : Bool) (bs : List Bool) → b ≡ false → all_of (b ∷ bs) ≡ false
-unfolding all_of if◌then◌else◌
+unfolding all_of if◌then◌otherwise◌
 all_not_here b bs e = rw e
 
 pub all_not_there : (b : Bool) (bs : List Bool) → all_of bs ≡ false → all_of (b ∷ bs) ≡ false
-unfolding all_of if◌then◌else◌
+unfolding all_of if◌then◌otherwise◌
 all_not_there true bs e = e
 all_not_there false bs e = refl
 
@@ -111,16 +111,16 @@ pub all_eqb : (a b : ℕ) (bs : List Bool) → all_of (eqb a b ∷ bs) ≡ true 
 all_eqb a b bs e = eqb-true a b (all_head _ _ e)
 
 pub any_here : (b : Bool) (bs : List Bool) → b ≡ true → any_of (b ∷ bs) ≡ true
-unfolding any_of if◌then◌else◌
+unfolding any_of if◌then◌otherwise◌
 any_here b bs e = rw e
 
 pub any_there : (b : Bool) (bs : List Bool) → any_of bs ≡ true → any_of (b ∷ bs) ≡ true
-unfolding any_of if◌then◌else◌
+unfolding any_of if◌then◌otherwise◌
 any_there true bs e = refl
 any_there false bs e = e
 
 pub any_not : (b : Bool) (bs : List Bool) → b ≡ false → any_of bs ≡ false → any_of (b ∷ bs) ≡ false
-unfolding any_of if◌then◌else◌
+unfolding any_of if◌then◌otherwise◌
 any_not b bs e q = rw e q
 
 pub any_empty : any_of [] ≡ false
@@ -141,11 +141,11 @@ pub any_hit : (b : Bool) (bs : List Bool) → b ≡ true → true ≡ any_of (b 
 any_hit b bs e = sym (any_here b bs e)
 
 pub any_miss : (x b : Bool) (bs : List Bool) → b ≡ false → x ≡ any_of bs → x ≡ any_of (b ∷ bs)
-unfolding any_of if◌then◌else◌
+unfolding any_of if◌then◌otherwise◌
 any_miss x b bs e q = rw e q
 
 pub any_last : (x b : Bool) → x ≡ b → x ≡ any_of (b ∷ [])
-unfolding any_of if◌then◌else◌
+unfolding any_of if◌then◌otherwise◌
 any_last true b e = rw (← e)
 any_last false b e = rw (← e)
 

@@ -9,7 +9,7 @@ use native.Mathlib.Nat.{le_of_suc-le-suc, not-suc-le-zero}
 use native.Mathlib.Omega.{arith}
 use borrow.Author.Tests.{ltb-true, ltb-false, leb-true, leb-false, eqb-true, eqb-false, ne_eqb}
 use lib.Dec.{leb, ltb, eqb}
-use Rattle.forms.specs.Choice.{if◌then◌else◌, all_of, any_of}
+use Rattle.forms.specs.Choice.{if◌then◌otherwise◌, all_of, any_of}
 use Rattle.forms.specs.Checks.{Check, first}
 use Rattle.forms.specs.Checks.Check.{◌when◌}
 use Rattle.forms.proofs.Choice.{if_yes}
@@ -74,12 +74,12 @@ always P p = record { holds = λ t. p; fails = λ f. absurd (true≢false f) }
 -- ------------------------------------------------------------------ tests put together
 
 pub one_test : (b : Bool) (P : Type 0) → Decides b P → Decides (any_of (b ∷ [])) P
-unfolding any_of if◌then◌else◌
+unfolding any_of if◌then◌otherwise◌
 one_test true P d = d
 one_test false P d = d
 
 pub or_more : (b : Bool) (bs : List Bool) (P Q : Type 0) → Decides b P → Decides (any_of bs) Q → Decides (any_of (b ∷ bs)) (P or Q)
-unfolding any_of if◌then◌else◌
+unfolding any_of if◌then◌otherwise◌
 or_more true bs P Q d e = record { holds = λ t. inl (d.holds refl); fails = λ f. absurd (true≢false f) }
 or_more false bs P Q d e = record { holds = λ t. inr (e.holds t); fails = λ f. go (d.fails refl) (e.fails f) }
   where
@@ -88,12 +88,12 @@ or_more false bs P Q d e = record { holds = λ t. inr (e.holds t); fails = λ f.
     go n m (inr q) = m q
 
 pub all_one : (b : Bool) (P : Type 0) → Decides b P → Decides (all_of (b ∷ [])) P
-unfolding all_of if◌then◌else◌
+unfolding all_of if◌then◌otherwise◌
 all_one true P d = d
 all_one false P d = d
 
 pub and_more : (b : Bool) (bs : List Bool) (P Q : Type 0) → Decides b P → Decides (all_of bs) Q → Decides (all_of (b ∷ bs)) (P and Q)
-unfolding all_of if◌then◌else◌
+unfolding all_of if◌then◌otherwise◌
 and_more true bs P Q d e = record { holds = λ t. (d.holds refl, e.holds t); fails = λ f k. e.fails f k.1 }
 and_more false bs P Q d e = record { holds = λ t. absurd (false≢true t); fails = λ f k. d.fails refl k.0 }
 
@@ -109,12 +109,12 @@ pub not_one : (a : ℕ) → Decides (eqb a 0) (¬ (1 ≤ a))
 not_one a = record { holds = λ t l. omega (arith, eqb-true a 0 t); fails = λ f n. n (let z = eqb-false a 0 f in omega arith) }
 
 pub nor_more : (b : Bool) (bs : List Bool) (P Q : Type 0) → Decides b (¬ P) → Decides (any_of bs) (¬ Q) → Decides (any_of (b ∷ bs)) (¬ (P and Q))
-unfolding any_of if◌then◌else◌
+unfolding any_of if◌then◌otherwise◌
 nor_more true bs P Q d e = record { holds = λ t k. d.holds refl k.0; fails = λ f. absurd (true≢false f) }
 nor_more false bs P Q d e = record { holds = λ t k. e.holds t k.1; fails = λ f n. d.fails refl (λ p. e.fails f (λ q. n (p, q))) }
 
 pub nand : (b c : Bool) (P Q : Type 0) → Decides b P → Decides c (¬ Q) → Decides (all_of (b ∷ c ∷ [])) (¬ (P → Q))
-unfolding all_of if◌then◌else◌
+unfolding all_of if◌then◌otherwise◌
 nand false c P Q d e = record { holds = λ t. absurd (false≢true t); fails = λ f n. n (λ p. absurd (d.fails refl p)) }
 nand true true P Q d e = record { holds = λ t k. e.holds refl (k (d.holds refl)); fails = λ f. absurd (true≢false f) }
 nand true false P Q d e = record { holds = λ t. absurd (false≢true t); fails = λ f n. e.fails refl (λ q. n (λ p. q)) }
@@ -145,10 +145,10 @@ pub ruleset words = (by_lt, by_le, by_eq, by_not, one_test, or_more, all_one, an
 
 module _ {A : Type 0} (test : A → Bool) (P : A → Type 0) (each : (x : A) → Decides (test x) (P x)) where
   abbrev or_test : Bool → A → Bool
-  or_test bad x = if bad then true else test x
+  or_test bad x = if bad then true otherwise test x
 
   pub or_some : (b : Bool) (Q : Type 0) (xs : List A) → Decides b Q → Decides (foldl or_test b xs) (Q or Some P xs)
-  unfolding if◌then◌else◌
+  unfolding if◌then◌otherwise◌
   or_some b Q [] d = record { holds = λ t. inl (d.holds t); fails = λ f. go (d.fails f) }
     where
       go : ¬ Q → Q ⊎ ⊥ → ⊥
@@ -211,7 +211,7 @@ among (k ∷ ks) ls n e (inr m) = among ks ls n (both (has ls k) (within ks ls) 
 -- a row: its test decides its words, and where they do not hold the rest give what the rest say
 pub row : (n : ℕ) (b : Bool) (P : Type 0) (cs : List Check) (rest : List Number) → Decides b P
     → (¬ P → Gives rest (first cs)) → Gives (n for P ∷ rest) (first (n when b ∷ cs))
-unfolding Gives first if◌then◌else◌
+unfolding Gives first if◌then◌otherwise◌
 row n true P cs rest d k = inl (d.holds refl, refl)
 row n false P cs rest d k = let nay = d.fails refl in inr (nay, k nay)
 
@@ -238,12 +238,12 @@ past k n P rest other (inr g) = g
 
 -- a check that does not apply here
 pub passed_over : (n : ℕ) (cs : List Check) (ns : List Number) → Gives ns (first cs) → Gives ns (first (n when false ∷ cs))
-unfolding first if◌then◌else◌
+unfolding first if◌then◌otherwise◌
 passed_over n cs ns g = g
 
 -- a choice by a test, and the last of a row of choices
-pub choice : (k : ℕ) (b : Bool) (x : ℕ) (P : Type 0) (rest : List Number) → Decides b P → (¬ P → Gives rest x) → Gives (k for P ∷ rest) (if b then k else x)
-unfolding Gives if◌then◌else◌
+pub choice : (k : ℕ) (b : Bool) (x : ℕ) (P : Type 0) (rest : List Number) → Decides b P → (¬ P → Gives rest x) → Gives (k for P ∷ rest) (if b then k otherwise x)
+unfolding Gives if◌then◌otherwise◌
 choice k true x P rest d f = inl (d.holds refl, refl)
 choice k false x P rest d f = let nay = d.fails refl in inr (nay, f nay)
 
@@ -262,7 +262,7 @@ numbers_in (k for P ∷ rest) = k ∷ numbers_in rest
 -- a number that is its own check: where its table does not give it, the checks behind it give what theirs says
 pub own_table : (ns rest : List Number) (n : ℕ) (cs : List Check) → has (numbers_in ns) 0 ≡ false → Gives ns n → Gives rest (first cs)
     → Gives (ns ++ rest) (first (n when not (eqb n 0) ∷ cs))
-unfolding Gives first if◌then◌else◌
+unfolding Gives first if◌then◌otherwise◌
 own_table [] rest n cs z e g = rw e g
 own_table (k for P ∷ ns) rest n cs z (inl (p, e)) g =
     let other : ¬ (n ≡ 0) = λ q. eqb-false 0 k (neither (eqb 0 k) _ z).0 (sym q ∙ e) in
@@ -321,7 +321,7 @@ once (k for Q ∷ above) n P rest a b =
 
 unfoldable pub below : ℕ → (ℕ → Bool) → Bool
 below zero F = true
-below (suc n) F = if F 0 then below n (λ i. F (suc i)) else false
+below (suc n) F = if F 0 then below n (λ i. F (suc i)) otherwise false
 
 pub each_below : (n : ℕ) (F : ℕ → Bool) → below n F ≡ true → (i : ℕ) → i < n → F i ≡ true
 unfolding below

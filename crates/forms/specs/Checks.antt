@@ -1,7 +1,7 @@
 -- Ordered checks: they run in the order in which they stand, and the first that applies gives the number.
 -- Assumes nothing.
 use Rattle.std.specs.Prelude.{ℕ, Bool, true, false, not, ◌&&◌, List, [], ◌∷◌, ◌≡◌, eqb}
-use Rattle.forms.specs.Choice.{if◌then◌else◌}
+use Rattle.forms.specs.Choice.{if◌then◌otherwise◌}
 
 -- a number, and the test for which it is given
 infix 80 ◌when◌
@@ -11,7 +11,7 @@ pub data Check : Type 0 where
 -- the number of the first check that applies, 0 where none does
 unfoldable pub first : List Check → ℕ
 first [] = 0
-first (n when b ∷ cs) = if b then n else first cs
+first (n when b ∷ cs) = if b then n otherwise first cs
 
 -- no check of the list applies
 abbrev pub Passed : List Check → Type 0

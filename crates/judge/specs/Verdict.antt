@@ -10,6 +10,6 @@ use Rattle.rules.specs.declared.Stock.{Stock}
 use Rattle.judge.specs.declared.Verdict.{Verdict}
 
 -- its earliest moment, and whether it is rubbish: it is bad by itself, or that moment is dated before the clock. With good trades this is all of
--- document 01's rubbish (the law rubbish-is)
+-- document 01's rubbish (the law `rubbish_is`)
 abbrev pub verdict_of : Figures → Stock → Verdict
 verdict_of f s = record { earliest = next f s; rubbish = any_of (bad_stock s ∷ past_at (clock_of s) (next f s) ∷ []) }

@@ -1,6 +1,8 @@
 // The judgement of a stock and of a call: the next moment, what is rubbish, and the ordered refusals. No
 // public function has a `requires`: each gives for every input what the rules say, and changes nothing; in
 // `message_refusal` a reference that band has no room for counts as none.
+#![tactic(auto)]
+
 ghost use Rattle.std.specs.Prelude.{◌≡◌};
 ghost use Rattle.forms.specs.Checks.{first};
 ghost use Rattle.rules.specs.Numbers.{bad_end, bad_setup, message_checks, time_checks};
@@ -19,7 +21,7 @@ mod range;
 mod table;
 
 // The verdict on a stock: its earliest moment, mark 0 where there is none, and whether it is rubbish.
-#[derive(Drop)]
+#[derive(Clone, Copy)]
 pub struct Verdict {
     pub earliest: Moment,
     pub rubbish: bool,

@@ -1,5 +1,7 @@
 // Builds the message of each letter from its numbers, in the order of document 01, and gives a message's time. No
 // function has a `requires`: the book checks the ranges.
+#![tactic(auto)]
+
 ghost use Rattle.std.specs.Prelude.{◌≡◌};
 ghost use Rattle.rules.specs.declared.Message.TheVariants.{Trade, Quote, Opening, Pause, Reopening, Closing};
 ghost use Rattle.rules.specs.Messages.{time_of};

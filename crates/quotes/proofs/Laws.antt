@@ -1,7 +1,7 @@
 -- The laws of specs/Laws.antt.
 -- Assumes nothing.
 use mathlib.Core.Path.{◌≡◌, refl, ◌∙◌}
-use Rattle.forms.specs.Choice.{if◌then◌else◌, any_of}
+use Rattle.forms.specs.Choice.{if◌then◌otherwise◌, any_of}
 use Rattle.forms.proofs.Promises.{agree}
 use Rattle.band.proofs.Words.{fits_is}
 use Rattle.rules.specs.Quotes.{in_force, k_time, bands_in, best_of}
@@ -45,7 +45,7 @@ unfolding outside bands_in in_force k_time
 outside_by_basis k q price = refl
 
 limit_shows_the_same : LimitShowsTheSame
-unfolding bands_in best_of in_force k_time any_of if◌then◌else◌
+unfolding bands_in best_of in_force k_time any_of if◌then◌otherwise◌
 limit_shows_the_same s e = rw e
 
 pub laws : Laws

@@ -11,7 +11,7 @@ use lib.Dec.{ltb, eqb}
 use lib.ListN.{length, drop, get_or}
 use mir.Syntax.{w32}
 use mir.Val.{Fits}
-use Rattle.forms.specs.Choice.{if◌then◌else◌}
+use Rattle.forms.specs.Choice.{if◌then◌otherwise◌}
 use Rattle.forms.proofs.Bools.{joined}
 use Rattle.forms.proofs.Choice.{if_arms}
 use Rattle.forms.proofs.Loops.{fold_turn, fold_end}
@@ -37,9 +37,9 @@ pub no_bid_yet : (on : Bool) (upper cap : ℕ) (bids : List ℕ) → foldl (high
 unfolding best_bid
 no_bid_yet on upper cap bids = rw sub_self
 
-pub higher_bid : (on : Bool) (upper cap gap bid r : ℕ) → cap ≡ (if on then min upper 4_294_967_295 else 4_294_967_295) → Fits w32 bid
+pub higher_bid : (on : Bool) (upper cap gap bid r : ℕ) → cap ≡ (if on then min upper 4_294_967_295 otherwise 4_294_967_295) → Fits w32 bid
     → gap ≤ cap → r ≡ min gap ((cap + 4_294_967_296 - bid) % 4_294_967_296) → cap - r ≡ higher on upper (cap - gap) bid
-unfolding higher if◌then◌else◌
+unfolding higher if◌then◌otherwise◌
 higher_bid true upper cap gap bid r e k h q =
     simp joined (if_arms (λ x. cap - r ≡ x) (ltb upper bid) (λ t. omega told) (λ t. omega told))
 higher_bid false upper cap gap bid r e k h q = simp joined (omega arith)
@@ -47,8 +47,8 @@ higher_bid false upper cap gap bid r e k h q = simp joined (omega arith)
 -- ------------------------------------------------------------------ offers
 
 -- a choice by one of two tests, as two choices
-if_or : {A : Type 0} (a b : Bool) (x y : A) → (if a || b then x else y) ≡ (if a then x else if b then x else y)
-unfolding if◌then◌else◌
+if_or : {A : Type 0} (a b : Bool) (x y : A) → (if a || b then x otherwise y) ≡ (if a then x otherwise if b then x otherwise y)
+unfolding if◌then◌otherwise◌
 if_or true b x y = refl
 if_or false b x y = refl
 
@@ -73,12 +73,12 @@ module _ (floor gap offer r : ℕ) (k : Fits w32 offer) (h : gap + (floor + 1) �
   left : offer ≤ floor → Is best
   left l = omega arith
 
-  taken : floor < offer → Is (if eqb best 0 then offer else min best offer)
+  taken : floor < offer → Is (if eqb best 0 then offer otherwise min best offer)
   taken l = if_arms Is (eqb best 0) (λ t. omega told) (λ t. omega told)
 
-  pub lesser_offer : (on : Bool) (lower : ℕ) → floor ≡ (if on then min (lower - 1) 4_294_967_295 else 0)
+  pub lesser_offer : (on : Bool) (lower : ℕ) → floor ≡ (if on then min (lower - 1) 4_294_967_295 otherwise 0)
       → price_at (floor + 1) r ≡ lesser on lower (price_at (floor + 1) gap) offer
-  unfolding lesser if◌then◌else◌
+  unfolding lesser if◌then◌otherwise◌
   lesser_offer true lower e =
       simp (joined, if_or)
       (if_arms Is (eqb offer 0) (λ t. left (omega told))

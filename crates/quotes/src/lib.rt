@@ -1,6 +1,8 @@
 // What a stock shows: the bands in force, and the best bid and the best offer with their flags. A function takes
 // only the parts of a stock that it needs. No public function has a `requires`: each gives for every input what the
 // rules of quotes give for a stock with these parts; a reference that band has no room for counts as none.
+#![tactic(auto)]
+
 ghost use Rattle.std.specs.Prelude.{◌≡◌};
 ghost use Rattle.rules.specs.States.{no_quotes};
 ghost use Rattle.rules.specs.Numbers.{outside};
@@ -13,7 +15,7 @@ use rules::{Best, Course, Quotes, Reference, Setup, Side};
 mod side;
 
 // A stock without its quotes.
-#[derive(Drop)]
+#[derive(Clone, Copy)]
 pub struct Kept {
     pub setup: Setup,
     pub end: u32,
@@ -22,7 +24,7 @@ pub struct Kept {
 }
 
 // The numbers that bands depend on.
-#[derive(Drop)]
+#[derive(Clone, Copy)]
 pub struct Basis {
     pub tier: u32,
     pub leverage: u32,
@@ -35,7 +37,7 @@ pub struct Basis {
 }
 
 // What a stock shows.
-#[derive(Drop)]
+#[derive(Clone, Copy)]
 pub struct Shown {
     pub bands: Bands,
     pub best: Best,

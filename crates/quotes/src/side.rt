@@ -1,6 +1,6 @@
 // Bands in force, and the two sides of the quotes.
 ghost use Rattle.std.specs.Prelude.{◌+◌, ◌-◌, ◌%◌, ◌≤◌, min, ◌≡◌};
-ghost use Rattle.forms.specs.Choice.{if◌then◌else◌};
+ghost use Rattle.forms.specs.Choice.{if◌then◌otherwise◌};
 ghost use Rattle.rules.specs.Quotes.{in_force, k_time, bands_in, best_bid, best_offer, bid_flag, offer_flag};
 ghost use Rattle.rules.specs.States.{no_quotes};
 ghost use Rattle.quotes.specs.Parts.{stock_by};
@@ -10,7 +10,7 @@ use band::Bands;
 use rules::{FLAG_ABSENT, FLAG_LIMIT, FLAG_NON_EXECUTABLE, FLAG_PLAIN, LIMIT, Quotes, TRADING};
 
 // The best bid and the best offer, without their flags.
-#[derive(Drop)]
+#[derive(Clone, Copy)]
 pub struct Prices {
     pub bid: u32,
     pub offer: u32,
@@ -62,7 +62,7 @@ fn clipped(price: u64) -> u32
 
 // The highest bid that counts.
 fn cap_of(on: bool, upper: u64) -> u32
-    ensures { result ≡ (if on then min upper 4_294_967_295 else 4_294_967_295) }
+    ensures { result ≡ (if on then min upper 4_294_967_295 otherwise 4_294_967_295) }
 {
     if on {
         return clipped(upper);
@@ -72,7 +72,7 @@ fn cap_of(on: bool, upper: u64) -> u32
 
 // The highest offer that does not count: 0, an absent one, where no band excludes more.
 fn floor_of(on: bool, lower: u64) -> u32
-    ensures { result ≡ (if on then min (lower - 1) 4_294_967_295 else 0) }
+    ensures { result ≡ (if on then min (lower - 1) 4_294_967_295 otherwise 0) }
 {
     if on {
         if lower == 0 {

@@ -9,11 +9,11 @@ use native.Mathlib.Omega.{arith}
 use borrow.Author.Tests.{eq-eqb, ne_eqb, eqb-true}
 use lib.Dec.{ltb, leb, eqb}
 use lib.ListN.{length}
-use Rattle.forms.specs.Choice.{if◌then◌else◌, any_of}
+use Rattle.forms.specs.Choice.{if◌then◌otherwise◌, any_of}
 use Rattle.forms.specs.Checks.{first}
 use Rattle.forms.specs.Words.{◌or◌, ◌and◌, Number, Gives}
 use Rattle.forms.proofs.Choice.{if_true, if_false, if_arms}
-use Rattle.forms.proofs.Decides.{Decides, words, is_so, stable, either_way, by_lt, by_eq, by_le, skip, take, one_number, exactly, listed as one-listed, numbers_in, within, among}
+use Rattle.forms.proofs.Decides.{Decides, words, is_so, stable, either_way, by_lt, by_eq, by_le, skip, take, one_number, exactly, listed as one_listed, numbers_in, within, among}
 use Rattle.band.specs.declared.Mean.{Mean}
 use Rattle.band.proofs.Words.{printed_given}
 use Rattle.band.proofs.Laws.{printed_of_none}
@@ -27,7 +27,7 @@ use Rattle.rules.specs.Counted.{Counted, no_summary}
 use Rattle.rules.specs.TotalsWords as with_totals
 use Rattle.rules.specs.Book.{counting, blank, book_tells, book_settles, book_reads, book_totals}
 use Rattle.rules.specs.Words.{IsShape, book_refusals, setup_refusals, IsPrinted, ShowsNothing, Shows}
-use Rattle.rules.specs.Demands.{CallsLeave, AnswersShow, BookAnswers, BookNumbersAre, NumbersListed, numbers_of_lem, FreshIs}
+use Rattle.rules.specs.Demands.{CallsLeave, AnswersShow, BookAnswers, BookNumbersAre, NumbersListed, numbers_of, FreshIs}
 use Rattle.rules.specs.declared.Stock.{Stock}
 use Rattle.rules.specs.declared.Answer.{Answer}
 use Rattle.rules.specs.declared.Notice.{Notice}
@@ -67,11 +67,11 @@ printed_shown s = go (done_or_not s.reference.price.count)
     go (inr n) = inr (printed_given m.sum m.count (omega arith))
 
 shows_it : (n : ℕ) (s : Stock) → Shows n s (answer n s)
-unfolding answer if◌then◌else◌
+unfolding answer if◌then◌otherwise◌
 shows_it n s = go (any_of (eqb n 1 ∷ eqb n 2 ∷ eqb n 3 ∷ [])) (search words)
   where
     go : (b : Bool) → Decides b (n ≡ 1 or n ≡ 2 or n ≡ 3)
-        → Shows n s (if b then zeros n else record { number = n; state = state_of s; reference = printed_reference s; lower = (bands_in s).lower; upper = (bands_in s).upper; best = best_of s })
+        → Shows n s (if b then zeros n otherwise record { number = n; state = state_of s; reference = printed_reference s; lower = (bands_in s).lower; upper = (bands_in s).upper; best = best_of s })
     go true d = (refl, inl (d.holds refl, (refl, (refl, (refl, (refl, (refl, (refl, (refl, refl)))))))))
     go false d = (refl, inr (d.fails refl, (refl, (printed_shown s, (bands_shown s, (bid_shown s, offer_shown s))))))
 
@@ -117,7 +117,7 @@ pub data Called (stocks times prices i : ℕ) : Type 0 where
   there : IsShape stocks times prices → i < stocks → first (call_checks stocks times prices i) ≡ 0 → Called stocks times prices i
 
 pub called : (stocks times prices i : ℕ) → Called stocks times prices i
-unfolding call_checks first if◌then◌else◌
+unfolding call_checks first if◌then◌otherwise◌
 called stocks times prices i = go (bad_shape stocks times prices) refl (leb stocks i) refl
   where
     go : (b : Bool) → bad_shape stocks times prices ≡ b → (c : Bool) → leb stocks i ≡ c → Called stocks times prices i
@@ -131,7 +131,7 @@ called stocks times prices i = go (bad_shape stocks times prices) refl (leb stoc
 module _ {A : Type 0} (zero : ℕ → A) (it : A) (number_of : A → ℕ) (its : (n : ℕ) → number_of (zero n) ≡ n)
     (stocks times prices i : ℕ) where
   abbrev called_answer : A
-  called_answer = let number = first (call_checks stocks times prices i) in if eqb number 0 then it else zero number
+  called_answer = let number = first (call_checks stocks times prices i) in if eqb number 0 then it otherwise zero number
 
   abbrev There : Type 0
   There = IsShape stocks times prices and i < stocks
@@ -242,10 +242,10 @@ book_numbers end b times prices i n = (
   where
     -- a book of the right shape: the stock's number where it is there, and 3 where it is not
     by_place : (own given : ℕ) (rest : List Number) → IsShape (length b) times prices → (IsShape (length b) times prices and i < length b → given ≡ own)
-        → Gives (book_refusals (length b) times prices i rest) given → (if ltb i (length b) then own else 3) ≡ given
+        → Gives (book_refusals (length b) times prices i rest) given → (if ltb i (length b) then own otherwise 3) ≡ given
     by_place own given rest s is g = go (ltb i (length b)) (by_lt i (length b))
       where
-        go : (c : Bool) → Decides c (i < length b) → (if c then own else 3) ≡ given
+        go : (c : Bool) → Decides c (i < length b) → (if c then own otherwise 3) ≡ given
         go true d = if_true true own 3 refl ∙ sym (is (s, d.holds refl))
         go false d =
             let n = d.fails refl in
@@ -253,7 +253,7 @@ book_numbers end b times prices i n = (
 
 -- ------------------------------------------------------------------ the numbers of each call
 
-numbers_of_lem : (m : Message) (h : Counted) (stocks times prices i : ℕ) → within (0 ∷ numbers_in (book_refusals stocks times prices i (with_totals.refusals m h))) (numbers_of_lem m) ≡ true
+numbers_of_lem : (m : Message) (h : Counted) (stocks times prices i : ℕ) → within (0 ∷ numbers_in (book_refusals stocks times prices i (with_totals.refusals m h))) (numbers_of m) ≡ true
 numbers_of_lem (T time price) h stocks times prices i = refl
 numbers_of_lem (Q time participant bid offer) h stocks times prices i = refl
 numbers_of_lem (O time participant price) h stocks times prices i = refl
@@ -266,11 +266,11 @@ listed = (
   (λ end b times prices i.
       let h = stock counting (blank end) b i in
       let on = book_refusals (length b) times prices i in (
-        (λ m. among (0 ∷ numbers_in (on (with_totals.refusals m h))) (numbers_of_lem m) _ (numbers_of_lem m h (length b) times prices i) (one-listed _ _ (told_on end b times prices i m))),
-        (λ time. among (0 ∷ numbers_in (on (with_totals.settle_refusals time h))) (0 ∷ 1 ∷ 3 ∷ 4 ∷ 14 ∷ []) _ refl (one-listed _ _ (settled_on end b times prices i time))),
-        among (0 ∷ numbers_in (on (with_totals.read_refusals h))) (0 ∷ 1 ∷ 3 ∷ []) _ refl (one-listed _ _ (read_on end b times prices i)),
-        among (0 ∷ numbers_in (on (with_totals.read_refusals h))) (0 ∷ 1 ∷ 3 ∷ []) _ refl (one-listed _ _ (totals_on end b times prices i)),
+        (λ m. among (0 ∷ numbers_in (on (with_totals.refusals m h))) (numbers_of m) _ (numbers_of_lem m h (length b) times prices i) (one_listed _ _ (told_on end b times prices i m))),
+        (λ time. among (0 ∷ numbers_in (on (with_totals.settle_refusals time h))) (0 ∷ 1 ∷ 3 ∷ 4 ∷ 14 ∷ []) _ refl (one_listed _ _ (settled_on end b times prices i time))),
+        among (0 ∷ numbers_in (on (with_totals.read_refusals h))) (0 ∷ 1 ∷ 3 ∷ []) _ refl (one_listed _ _ (read_on end b times prices i)),
+        among (0 ∷ numbers_in (on (with_totals.read_refusals h))) (0 ∷ 1 ∷ 3 ∷ []) _ refl (one_listed _ _ (totals_on end b times prices i)),
       )),
   (λ stocks times prices end us.
-      among (0 ∷ numbers_in (setup_refusals stocks times prices end us)) (0 ∷ 1 ∷ 2 ∷ []) _ refl (one-listed _ _ (set_up stocks times prices end us))),
+      among (0 ∷ numbers_in (setup_refusals stocks times prices end us)) (0 ∷ 1 ∷ 2 ∷ []) _ refl (one_listed _ _ (set_up stocks times prices end us))),
 )

@@ -107,7 +107,7 @@ module _ (h : Whole) (n : Notice) (v : CanHappen h (moment n)) (x : n.mark ≡ m
 by_mark : (F : List ℕ → Type 0) (n : Notice) (ns : List Notice) → (n.mark ≡ mark_x → F (n.time ∷ limit_pauses ns))
     → (¬ (n.mark ≡ mark_x) → F (limit_pauses ns)) → F (limit_pauses (n ∷ ns))
 unfolding limit_pauses
-by_mark F n ns is_x is-not = if_arms F (eqb n.mark mark_x) (λ q. is_x (eqb-true _ _ q)) (λ q. is-not (eqb-false _ _ q))
+by_mark F n ns is_x is_not = if_arms F (eqb n.mark mark_x) (λ q. is_x (eqb-true _ _ q)) (λ q. is_not (eqb-false _ _ q))
 
 later : (t : ℕ) (h : Whole) (es : Story) → Lawful machine h es → SincePause t h → Every (λ s. t + least_distance ≤ s) (limit_pauses (notices es))
 unfolding limit_pauses

@@ -7,7 +7,7 @@ use native.Mathlib.Omega.{arith}
 use borrow.Author.Tests.{eq-eqb, ne_eqb}
 use lib.Dec.{eqb}
 use lib.ListN.{length}
-use Rattle.forms.specs.Choice.{if◌then◌else◌, any_of}
+use Rattle.forms.specs.Choice.{if◌then◌otherwise◌, any_of}
 use Rattle.forms.specs.Words.{◌and◌}
 use Rattle.forms.proofs.Choice.{if_true, if_false}
 use Rattle.rules.specs.Numbers as numbers
@@ -30,21 +30,21 @@ use Rattle.rules.proofs.Counted.{if_wrong, if_right, told_with, settled_with, re
 -- ------------------------------------------------------------------ by the number
 
 answer_1 : (s : Stock) → answer 1 s ≡ zeros 1
-unfolding answer any_of if◌then◌else◌
+unfolding answer any_of if◌then◌otherwise◌
 answer_1 s = refl
 
 shows_1 : (n : ℕ) (s : Stock) → n ≡ 1 → ShowsNothing (answer n s)
 shows_1 n s e = rw e (nothing_shown 1 (answer 1 s) (answer_1 s))
 
 -- a part of what a test chooses
-part_chosen : {A B : Type 0} (f : A → B) (b : Bool) (x y : A) → f (if b then x else y) ≡ (if b then f x else f y)
-unfolding if◌then◌else◌
+part_chosen : {A B : Type 0} (f : A → B) (b : Bool) (x y : A) → f (if b then x otherwise y) ≡ (if b then f x otherwise f y)
+unfolding if◌then◌otherwise◌
 part_chosen f true x y = refl
 part_chosen f false x y = refl
 
 -- the same choice by two numbers that are equal
-by_number : {A : Type 0} (n k : ℕ) (x y : A) → n ≡ k → (if eqb n 0 then x else y) ≡ (if eqb k 0 then x else y)
-by_number n k x y e = ap (λ n. if eqb n 0 then x else y) e
+by_number : {A : Type 0} (n k : ℕ) (x y : A) → n ≡ k → (if eqb n 0 then x otherwise y) ≡ (if eqb k 0 then x otherwise y)
+by_number n k x y e = ap (λ n. if eqb n 0 then x otherwise y) e
 
 -- ------------------------------------------------------------------ wrong totals, and right ones
 
@@ -93,10 +93,10 @@ around c = (
         (e, rw (e, k), k)),
     (λ time.
         let e = if_right c (numbers.settles time c.whole) r in
-        (e, ap (λ n. if eqb n 0 then numbers.notice c.whole else beside no_moment (answer n c.whole.stock)) e, whole_settled c time e)),
+        (e, ap (λ n. if eqb n 0 then numbers.notice c.whole otherwise beside no_moment (answer n c.whole.stock)) e, whole_settled c time e)),
     if_right c _ r,
     ap (λ n. answer n c.whole.stock) (if_right c _ r),
-    ap (λ n. if eqb n 0 then record { number = 0; mark = (next_of c.whole).mark; time = (next_of c.whole).time } else none_coming n) (if_right c _ r),
+    ap (λ n. if eqb n 0 then record { number = 0; mark = (next_of c.whole).mark; time = (next_of c.whole).time } otherwise none_coming n) (if_right c _ r),
   )),
 )
 

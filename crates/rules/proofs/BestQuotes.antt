@@ -8,7 +8,7 @@ use mathlib.Core.Path.{◌≡◌, refl, sym, ap, ◌∙◌, subst}
 use native.Mathlib.Omega.{arith}
 use borrow.Author.Tests.{eqb-true, eqb-false}
 use lib.Dec.{ltb, eqb}
-use Rattle.forms.specs.Choice.{if◌then◌else◌, all_of, any_of}
+use Rattle.forms.specs.Choice.{if◌then◌otherwise◌, all_of, any_of}
 use Rattle.forms.specs.Words.{◌or◌, ◌and◌, IsOneOf, Gives, Otherwise}
 use Rattle.forms.specs.Words.Number.{◌for◌}
 use Rattle.forms.proofs.Choice.{if_true, if_false, if_arms}
@@ -25,11 +25,11 @@ use Rattle.rules.specs.declared.Stock.{Stock}
 -- ------------------------------------------------------------------ bands in force
 
 in_trading : (s : Stock) → state_of s ≡ Trading → bands_in s ≡ bands_at s (clock_of s)
-unfolding in_force bands_in k_time if◌then◌else◌ any_of
+unfolding in_force bands_in k_time if◌then◌otherwise◌ any_of
 in_trading s e = rw e
 
 in_limit : (s : Stock) → state_of s ≡ Limit → bands_in s ≡ bands_at s s.course.entry
-unfolding in_force bands_in k_time if◌then◌else◌ any_of
+unfolding in_force bands_in k_time if◌then◌otherwise◌ any_of
 in_limit s e = rw e
 
 abbrev Force : Stock → Type 0
@@ -226,10 +226,10 @@ module _ (s : Stock) where
 
 -- a flag by whether the side is absent, beyond a band, and at the other, in words
 abbrev flag_of : (z on x y : Bool) → ℕ
-flag_of z on x y = if z then 0 else if on then (if x then 2 else if y then 3 else 1) else 1
+flag_of z on x y = if z then 0 otherwise if on then (if x then 2 otherwise if y then 3 otherwise 1) otherwise 1
 
 flag_2 : {Z A : Type 0} (z on x y : Bool) → Decides z Z → Decides (all_of (on ∷ x ∷ [])) A → Decides (eqb (flag_of z on x y) 2) (¬ Z and A)
-unfolding if◌then◌else◌ all_of
+unfolding if◌then◌otherwise◌ all_of
 flag_2 true on x y dz dx = never _ (λ k. k.0 (dz.holds refl))
 flag_2 false true true y dz dx = always _ (dz.fails refl, dx.holds refl)
 flag_2 false true false true dz dx = never _ (λ k. dx.fails refl k.1)
@@ -238,7 +238,7 @@ flag_2 false false x y dz dx = never _ (λ k. dx.fails refl k.1)
 
 flag_3 : {Z A B : Type 0} (z on x y : Bool) → Decides z Z → Decides (all_of (on ∷ x ∷ [])) A → Decides (all_of (on ∷ y ∷ [])) B
     → Decides (eqb (flag_of z on x y) 3) (¬ Z and ¬ A and B)
-unfolding if◌then◌else◌ all_of
+unfolding if◌then◌otherwise◌ all_of
 flag_3 true on x y dz dx dy = never _ (λ k. k.0 (dz.holds refl))
 flag_3 false true true y dz dx dy = never _ (λ k. k.1.0 (dx.holds refl))
 flag_3 false true false true dz dx dy = always _ (dz.fails refl, (dx.fails refl, dy.holds refl))
@@ -246,8 +246,8 @@ flag_3 false true false false dz dx dy = never _ (λ k. dy.fails refl k.1.1)
 flag_3 false false x y dz dx dy = never _ (λ k. dy.fails refl k.1.1)
 
 flag_gives : {A B : Type 0} (on x y : Bool) → Decides (all_of (on ∷ x ∷ [])) A → Decides (all_of (on ∷ y ∷ [])) B
-    → Gives (2 for A ∷ 3 for B ∷ 1 for Otherwise ∷ []) (if on then (if x then 2 else if y then 3 else 1) else 1)
-unfolding if◌then◌else◌ all_of
+    → Gives (2 for A ∷ 3 for B ∷ 1 for Otherwise ∷ []) (if on then (if x then 2 otherwise if y then 3 otherwise 1) otherwise 1)
+unfolding if◌then◌otherwise◌ all_of
 flag_gives true true y dx dy = take 2 _ _ _ (dx.holds refl) refl
 flag_gives true false true dx dy = skip 2 _ _ _ (dx.fails refl) (take 3 _ _ _ (dy.holds refl) refl)
 flag_gives true false false dx dy = skip 2 _ _ _ (dx.fails refl) (skip 3 _ _ _ (dy.fails refl) (take 1 _ _ _ tt refl))
@@ -326,7 +326,7 @@ module _ (s : Stock) where
   ) (unless_0 (eqb (offer s) 0) (by_eq (offer s) 0))
     where
       unless_0 : (b : Bool) → Decides b (offer s ≡ 0)
-          → Decides (if b then false else ltb (offer s) (bid s)) (¬ (offer s ≡ 0) and offer s < bid s)
+          → Decides (if b then false otherwise ltb (offer s) (bid s)) (¬ (offer s ≡ 0) and offer s < bid s)
       unless_0 true d = rw (if_true true false (ltb (offer s) (bid s)) refl) (never _ (λ k. k.0 (d.holds refl)))
       unless_0 false d = rw (if_false false false (ltb (offer s) (bid s)) refl)
           (reworded ((λ k. (d.fails refl, k)), (λ k. k.1)) (by_lt (offer s) (bid s)))

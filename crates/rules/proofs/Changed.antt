@@ -9,7 +9,7 @@ use native.Mathlib.Omega.{arith}
 use borrow.Author.Tests.{eq-eqb, ne_eqb}
 use lib.Dec.{leb, eqb}
 use lib.ListN.{length, length-append}
-use Rattle.forms.specs.Choice.{if◌then◌else◌, all_of, any_of}
+use Rattle.forms.specs.Choice.{if◌then◌otherwise◌, all_of, any_of}
 use Rattle.forms.specs.Words.{◌or◌, ◌and◌}
 use Rattle.forms.proofs.Choice.{if_true, if_false}
 use Rattle.forms.proofs.Decides.{Decides, words, is_true, is_false, either_way, by_le, by_eq, has, not_among}
@@ -18,9 +18,9 @@ use Rattle.band.proofs.Words.{moves_decides}
 use Rattle.band.specs.declared.Mean.{Mean}
 use Rattle.rules.specs.Stock.{Trade, Whole, Waiting, Trading, Limit, state_of, is, at_time, in_state, refer_to, not_early, hold_ended, figures_of, no_trades, mean_in}
 use Rattle.rules.specs.Quotes.{in_force, k_time, bands_in, best_of, flagged, at_limit}
-use Rattle.rules.specs.States.{look, begin_trading_lem, leave, is_far, test}
-use Rattle.rules.specs.Moments.{mark_z, mark_w, mark_x, mark_p, mark_c, mark_v, mark_f, mark_h, first_five_lem, effect, window_after, come, fire}
-use Rattle.rules.specs.Messages.{letter_t, letter_q, letter_o, letter_p, letter_r, letter_x, trade_rules, quote_rules, with_quote_lem, does, after}
+use Rattle.rules.specs.States.{look, begin_trading, leave, is_far, test}
+use Rattle.rules.specs.Moments.{mark_z, mark_w, mark_x, mark_p, mark_c, mark_v, mark_f, mark_h, first_five, effect, window_after, come, fire}
+use Rattle.rules.specs.Messages.{letter_t, letter_q, letter_o, letter_p, letter_r, letter_x, trade_rules, quote_rules, with_quote, does, after}
 use Rattle.rules.specs.Numbers.{notice}
 use Rattle.rules.specs.Machine.{Event, message, moment, becomes}
 use Rattle.rules.specs.Book.{machine}
@@ -53,8 +53,8 @@ unfolding figures_of
 no_count w e = ap length e
 
 -- a reference that starts in Trading
-in_trading : (r : Mean) (s : Stock) → state_of s ≡ Trading → look (refer_to r s) ≡ begin_trading_lem r s
-unfolding begin_trading_lem
+in_trading : (r : Mean) (s : Stock) → state_of s ≡ Trading → look (refer_to r s) ≡ begin_trading r s
+unfolding begin_trading
 in_trading r s t = ap (λ n. look (in_state n (refer_to r s))) t
 
 -- of a stock s whose window is then w: the mean starts, or nothing does
@@ -62,7 +62,7 @@ abbrev Tests : List Trade → Stock → Mean → Type 0
 Tests w s r = state_of s ≡ Trading and s.reference.hold ≡ 0 and IsMean w r and OnePercent r s.reference.price
 
 data Tested (w : List Trade) (s s' : Stock) : Type 0 where
-  moves : (r : Mean) → Tests w s r → s' ≡ begin_trading_lem r s → Tested w s s'
+  moves : (r : Mean) → Tests w s r → s' ≡ begin_trading r s → Tested w s s'
   rests : ¬ ((r : Mean) × Tests w s r) → s' ≡ s → Tested w s s'
 
 tested : (w : List Trade) (s : Stock) → Tested w s (test (figures_of w) s)
@@ -74,7 +74,7 @@ tested w s = go (all_of (is Trading s ∷ eqb s.reference.hold 0 ∷ not (no_tra
     r = mean_in (figures_of w)
 
     go : (b : Bool) → Decides b (state_of s ≡ Trading and s.reference.hold ≡ 0 and ¬ ((figures_of w).count ≡ 0) and OnePercent r s.reference.price)
-        → Tested w s (if b then look (refer_to r s) else s)
+        → Tested w s (if b then look (refer_to r s) otherwise s)
     go true d =
         let k = d.holds refl in
         rw (if_true true (look (refer_to r s)) s refl) (moves r (k.0, (k.1.0, (mean w (some_trades w k.1.1.0), k.1.1.1))) (in_trading r s k.0))
@@ -119,10 +119,10 @@ trade_changed time price h = go (decided (state_of s) Waiting)
     stays : ¬ StartsOne h e → Changed h e s
     stays n = same h e plain s c (unlooked e letter_t refl h refl n)
 
-    in_waiting : state_of s ≡ Waiting → (300_000 ≤ time) ⊎ (¬ (300_000 ≤ time)) → Changed h e (if leb 300_000 time then begin_trading_lem r s else s)
-    in_waiting z (inl l) = rw (if_true _ (begin_trading_lem r s) s (is_true _ (by_le 300_000 time) l))
+    in_waiting : state_of s ≡ Waiting → (300_000 ≤ time) ⊎ (¬ (300_000 ≤ time)) → Changed h e (if leb 300_000 time then begin_trading r s otherwise s)
+    in_waiting z (inl l) = rw (if_true _ (begin_trading r s) s (is_true _ (by_le 300_000 time) l))
         (begun h e plain s r c (inl (z, (l, mean w (omega (arith, length-append h.window (record { at = time; price = price } ∷ [])))))))
-    in_waiting z (inr l) = rw (if_false _ (begin_trading_lem r s) s (is_false _ (by_le 300_000 time) l)) (stays none)
+    in_waiting z (inr l) = rw (if_false _ (begin_trading r s) s (is_false _ (by_le 300_000 time) l)) (stays none)
       where
         none : ¬ StartsOne h e
         none (r, inl k) = l k.1.0
@@ -137,15 +137,15 @@ trade_changed time price h = go (decided (state_of s) Waiting)
         none (r, inr t) = k (r, t)
 
     go : (state_of s ≡ Waiting) ⊎ (¬ (state_of s ≡ Waiting))
-        → Changed h e (if is Waiting s then (if leb 300_000 time then begin_trading_lem r s else s) else test (figures_of w) s)
-    go (inl z) = rw (if_true (is Waiting s) (if leb 300_000 time then begin_trading_lem r s else s) (test (figures_of w) s) (eq-eqb _ _ z))
+        → Changed h e (if is Waiting s then (if leb 300_000 time then begin_trading r s otherwise s) otherwise test (figures_of w) s)
+    go (inl z) = rw (if_true (is Waiting s) (if leb 300_000 time then begin_trading r s otherwise s) (test (figures_of w) s) (eq-eqb _ _ z))
         (in_waiting z (either_way _ (by_le 300_000 time)))
-    go (inr n) = rw (if_false (is Waiting s) (if leb 300_000 time then begin_trading_lem r s else s) (test (figures_of w) s) (ne_eqb _ _ n))
+    go (inr n) = rw (if_false (is Waiting s) (if leb 300_000 time then begin_trading r s otherwise s) (test (figures_of w) s) (ne_eqb _ _ n))
         (by_test n (tested w s))
 
 -- in Limit the best quotes do not depend on the clock
 best_in_limit : (t : ℕ) (s : Stock) → state_of s ≡ Limit → best_of (at_time t s) ≡ best_of s
-unfolding best_of bands_in in_force k_time any_of if◌then◌else◌
+unfolding best_of bands_in in_force k_time any_of if◌then◌otherwise◌
 best_in_limit t s e = rw e
 
 module _ (time participant bid offer : ℕ) (h : Whole) where
@@ -153,12 +153,12 @@ module _ (time participant bid offer : ℕ) (h : Whole) where
   quote = message (Q time participant bid offer)
 
   abbrev quoted : Stock
-  quoted = with_quote_lem participant bid offer (at_time time h.stock)
+  quoted = with_quote participant bid offer (at_time time h.stock)
 
   -- in Limit, whether a side then has flag 3
-  still_at_band : state_of h.stock ≡ Limit → Decides (at_limit quoted) (AtBand (with_quote_lem participant bid offer h.stock))
-  still_at_band l = subst (λ b. Decides (flagged 3 b) (AtBand (with_quote_lem participant bid offer h.stock)))
-      (sym (best_in_limit time (with_quote_lem participant bid offer h.stock) l)) (at_band_is (with_quote_lem participant bid offer h.stock))
+  still_at_band : state_of h.stock ≡ Limit → Decides (at_limit quoted) (AtBand (with_quote participant bid offer h.stock))
+  still_at_band l = subst (λ b. Decides (flagged 3 b) (AtBand (with_quote participant bid offer h.stock)))
+      (sym (best_in_limit time (with_quote participant bid offer h.stock) l)) (at_band_is (with_quote participant bid offer h.stock))
 
   quote_changed : Changed h quote (after (Q time participant bid offer) h).stock
   unfolding after does quote_rules leave
@@ -176,20 +176,20 @@ module _ (time participant bid offer : ℕ) (h : Whole) where
       old : Mean
       old = quoted.reference.price
 
-      leaving : LeavesLimit h participant bid offer → (h.window ≡ []) ⊎ (1 ≤ length h.window) → Changed h quote (begin_trading_lem (if no_trades f then old else mean_in f) quoted)
+      leaving : LeavesLimit h participant bid offer → (h.window ≡ []) ⊎ (1 ≤ length h.window) → Changed h quote (begin_trading (if no_trades f then old otherwise mean_in f) quoted)
       leaving k (inl z) = rw (if_true (no_trades f) old (mean_in f) (eq-eqb _ _ (no_count h.window z)))
           (begun h quote plain quoted old c (k, inr (z, refl)))
       leaving k (inr l) = rw (if_false (no_trades f) old (mean_in f) (ne_eqb _ _ (no_none h.window l)))
           (begun h quote plain quoted (mean_in f) c (k, inl (mean h.window l)))
 
-      in_limit : (l : state_of quoted ≡ Limit) → (b : Bool) → Decides b (AtBand (with_quote_lem participant bid offer h.stock))
-          → Changed h quote (if b then quoted else begin_trading_lem (if no_trades f then old else mean_in f) quoted)
-      in_limit l true d = rw (if_true true quoted (begin_trading_lem (if no_trades f then old else mean_in f) quoted) refl) (same h quote plain quoted c none)
+      in_limit : (l : state_of quoted ≡ Limit) → (b : Bool) → Decides b (AtBand (with_quote participant bid offer h.stock))
+          → Changed h quote (if b then quoted otherwise begin_trading (if no_trades f then old otherwise mean_in f) quoted)
+      in_limit l true d = rw (if_true true quoted (begin_trading (if no_trades f then old otherwise mean_in f) quoted) refl) (same h quote plain quoted c none)
         where
           none : ¬ Looks h quote
           none (inl k) = k.1.0.1 (d.holds refl)
           none (inr k) = omega (arith, k.0)
-      in_limit l false d = rw (if_false false quoted (begin_trading_lem (if no_trades f then old else mean_in f) quoted) refl)
+      in_limit l false d = rw (if_false false quoted (begin_trading (if no_trades f then old otherwise mean_in f) quoted) refl)
           (leaving (l, d.fails refl) (none_or_some h.window))
 
       elsewhere : ¬ (state_of quoted ≡ Limit) → (state_of quoted ≡ Trading) ⊎ (¬ (state_of quoted ≡ Trading)) → Changed h quote (look quoted)
@@ -201,10 +201,10 @@ module _ (time participant bid offer : ℕ) (h : Whole) where
           none (inr k) = n k.0
 
       go : (state_of quoted ≡ Limit) ⊎ (¬ (state_of quoted ≡ Limit))
-          → Changed h quote (if is Limit quoted then (if at_limit quoted then quoted else begin_trading_lem (if no_trades f then old else mean_in f) quoted) else look quoted)
-      go (inl l) = rw (if_true (is Limit quoted) (if at_limit quoted then quoted else begin_trading_lem (if no_trades f then old else mean_in f) quoted) (look quoted) (eq-eqb _ _ l))
+          → Changed h quote (if is Limit quoted then (if at_limit quoted then quoted otherwise begin_trading (if no_trades f then old otherwise mean_in f) quoted) otherwise look quoted)
+      go (inl l) = rw (if_true (is Limit quoted) (if at_limit quoted then quoted otherwise begin_trading (if no_trades f then old otherwise mean_in f) quoted) (look quoted) (eq-eqb _ _ l))
           (in_limit l (at_limit quoted) (still_at_band l))
-      go (inr l) = rw (if_false (is Limit quoted) (if at_limit quoted then quoted else begin_trading_lem (if no_trades f then old else mean_in f) quoted) (look quoted) (ne_eqb _ _ l))
+      go (inr l) = rw (if_false (is Limit quoted) (if at_limit quoted then quoted otherwise begin_trading (if no_trades f then old otherwise mean_in f) quoted) (look quoted) (ne_eqb _ _ l))
           (elsewhere l (decided (state_of quoted) Trading))
 
 message_changed : (m : Message) (h : Whole) → Changed h (message m) (after m h).stock
@@ -311,8 +311,8 @@ module _ (h : Whole) (n : Notice) (v : CanHappen h (moment n)) where
     hold = inl (k, refl);
   }
 
-  on_f : m.mark ≡ mark_f → (w ≡ []) ⊎ (1 ≤ length w) → Changed h e (if no_trades (figures_of w) then not_early s else begin_trading_lem (mean_in (figures_of w)) (not_early s))
-  on_f k (inl z) = rw (if_true (no_trades (figures_of w)) (not_early s) (begin_trading_lem (mean_in (figures_of w)) (not_early s)) (eq-eqb _ _ (no_count w z)))
+  on_f : m.mark ≡ mark_f → (w ≡ []) ⊎ (1 ≤ length w) → Changed h e (if no_trades (figures_of w) then not_early s otherwise begin_trading (mean_in (figures_of w)) (not_early s))
+  on_f k (inl z) = rw (if_true (no_trades (figures_of w)) (not_early s) (begin_trading (mean_in (figures_of w)) (not_early s)) (eq-eqb _ _ (no_count w z)))
       (same h e (plainly e mark_f k refl) (not_early s) (early_come k) (unlooked e mark_f k h refl (unstarted none)))
     where
       none : (r : Mean) → By w r → ⊥
@@ -320,7 +320,7 @@ module _ (h : Whole) (n : Notice) (v : CanHappen h (moment n)) where
       none r (inr (inl q)) = omega (arith, q.0)
       none r (inr (inr (inl q))) = let o = only_mean w r q.1 in let l : length w ≡ 0 = ap length z in omega (arith, o.0)
       none r (inr (inr (inr q))) = omega (arith, q.0)
-  on_f k (inr l) = rw (if_false (no_trades (figures_of w)) (not_early s) (begin_trading_lem (mean_in (figures_of w)) (not_early s)) (ne_eqb _ _ (no_none w l)))
+  on_f k (inr l) = rw (if_false (no_trades (figures_of w)) (not_early s) (begin_trading (mean_in (figures_of w)) (not_early s)) (ne_eqb _ _ (no_none w l)))
       (begun h e (plainly e mark_f k refl) (not_early s) (mean_in (figures_of w)) (early_come k) (starts _ (inr (inr (inl (k, mean w l))))))
 
   on_v : m.mark ≡ mark_v → Changed h e (test (figures_of w) s)
@@ -346,7 +346,7 @@ module _ (h : Whole) (n : Notice) (v : CanHappen h (moment n)) where
   ByMark mark = Changed h e (effect mark (figures_of w) s)
 
   row_changed : IsRow (figures_of h.window) h.stock m → Changed h e (effect m.mark (figures_of w) s)
-  unfolding effect first_five_lem if◌then◌else◌
+  unfolding effect first_five if◌then◌otherwise◌
   row_changed (row_z k t a) = subst ByMark (sym k)
       (closed h e s (came h e mark_z h.stock.quotes k refl) (inr (inl k)) (not_among (letter_p ∷ mark_x ∷ []) _ mark_z k refl) (unmarked mark_z k refl))
   row_changed (row_w_early k t c a) = subst ByMark (sym k) (on_w k (decided (state_of s) Trading))

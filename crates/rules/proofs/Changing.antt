@@ -8,14 +8,14 @@ use mathlib.Core.Path.{◌≡◌, refl, sym, ap, subst, ◌∙◌}
 use native.Mathlib.Omega.{arith}
 use borrow.Author.Tests.{ne_eqb}
 use lib.Dec.{leb}
-use Rattle.forms.specs.Choice.{if◌then◌else◌, all_of, any_of}
+use Rattle.forms.specs.Choice.{if◌then◌otherwise◌, all_of, any_of}
 use Rattle.forms.specs.Words.{◌and◌, IsOneOf, Gives}
 use Rattle.forms.proofs.Choice.{if_true, if_false, all_not_here}
 use Rattle.forms.proofs.Decides.{Decides, words, is_true, is_false, either_way, by_le, skip, take, has, not_among, among}
 use Rattle.band.specs.declared.Mean.{Mean}
-use Rattle.rules.specs.Stock.{Whole, Trading, Limit, Paused, Late, state_of, clock_of, is, with_quotes, at_time, with_reference_lem, in_state, enter_limit, enter_pause}
+use Rattle.rules.specs.Stock.{Whole, Trading, Limit, Paused, Late, state_of, clock_of, is, with_quotes, at_time, with_reference, in_state, enter_limit, enter_pause}
 use Rattle.rules.specs.Quotes.{in_force, k_time, bands_in, best_of, flagged, at_limit, crossed}
-use Rattle.rules.specs.States.{look, begin_trading_lem, begin_pause_lem, shut}
+use Rattle.rules.specs.States.{look, begin_trading, begin_pause, shut}
 use Rattle.rules.specs.Moments.{mark_z, mark_w, mark_x, mark_c, mark_f, mark_h}
 use Rattle.rules.specs.Messages.{letter_q, letter_p, letter_x}
 use Rattle.rules.specs.Machine.{Event, dated}
@@ -63,7 +63,7 @@ no_band s l k = ⊎_elim (λ b. omega (arith, b.0)) (λ b. omega (arith, b.0)) k
 -- ------------------------------------------------------------------ looking at the quotes
 
 best_entered : (s : Stock) → state_of s ≡ Trading → best_of (enter_limit s) ≡ best_of s
-unfolding best_of bands_in in_force k_time any_of if◌then◌else◌
+unfolding best_of bands_in in_force k_time any_of if◌then◌otherwise◌
 best_entered s e = rw e
 
 -- a stock that was looked at in Trading: it has entered Limit, or it has not and need not
@@ -81,7 +81,7 @@ looked : (s : Stock) → state_of s ≡ Trading → Looked s (look s)
 unfolding look
 looked s t = go (all_of (is Trading s ∷ at_limit s ∷ not (crossed (best_of s)) ∷ [])) (search (words, at_band_is, crossed_is))
   where
-    go : (b : Bool) → Decides b (state_of s ≡ Trading and AtBand s and ¬ Crossing s) → Looked s (if b then enter_limit s else s)
+    go : (b : Bool) → Decides b (state_of s ≡ Trading and AtBand s and ¬ Crossing s) → Looked s (if b then enter_limit s otherwise s)
     go true d = rw (if_true true (enter_limit s) s refl) (enters (band_entered s t (d.holds refl).1) refl)
     go false d = rw (if_false false (enter_limit s) s refl) (keeps (λ k. d.fails refl (t, k)) refl)
 
@@ -102,11 +102,11 @@ module _ (h : Whole) (e : Event Message Notice) where
   }
 
   -- it starts a pause
-  pub paused : (s : Stock) → Come h e s → StartsPause e → ¬ Closes e → ¬ StartsOne h e → Changed h e (begin_pause_lem s)
-  unfolding begin_pause_lem
+  pub paused : (s : Stock) → Come h e s → StartsPause e → ¬ Closes e → ¬ StartsOne h e → Changed h e (begin_pause s)
+  unfolding begin_pause
   paused s c k x n = go (either_way _ (by_le (s.end - 600_000) (clock_of s)))
     where
-      go : (s.end - 600_000 ≤ clock_of s) ⊎ (¬ (s.end - 600_000 ≤ clock_of s)) → Changed h e (enter_pause (if leb (s.end - 600_000) (clock_of s) then Late else Paused) s)
+      go : (s.end - 600_000 ≤ clock_of s) ⊎ (¬ (s.end - 600_000 ≤ clock_of s)) → Changed h e (enter_pause (if leb (s.end - 600_000) (clock_of s) then Late otherwise Paused) s)
       go (inl l) = rw (if_true _ Late Paused (is_true _ (by_le (s.end - 600_000) (clock_of s)) l)) (record {
         state_is = skip 5 _ _ _ x (take 4 _ _ _ (k, omega (arith, c.end, c.clock)) refl);
         reference_is = inr (n, (c.price, (c.start, c.hold)));
@@ -120,12 +120,12 @@ module _ (h : Whole) (e : Event Message Notice) where
 
   module _ (plain : Plain e) where
     -- the quotes are looked at, in Trading, with that reference
-    by_look : (s : Stock) (r : Reference) → Come h e s → Looks h e → ReferenceAfter h e (with_reference_lem r s)
-        → Changed h e (look (with_reference_lem r (in_state Trading s)))
-    by_look s r c l ref = go (looked (with_reference_lem r (in_state Trading s)) refl)
+    by_look : (s : Stock) (r : Reference) → Come h e s → Looks h e → ReferenceAfter h e (with_reference r s)
+        → Changed h e (look (with_reference r (in_state Trading s)))
+    by_look s r c l ref = go (looked (with_reference r (in_state Trading s)) refl)
       where
-        go : Looked (with_reference_lem r (in_state Trading s)) (look (with_reference_lem r (in_state Trading s)))
-            → Changed h e (look (with_reference_lem r (in_state Trading s)))
+        go : Looked (with_reference r (in_state Trading s)) (look (with_reference r (in_state Trading s)))
+            → Changed h e (look (with_reference r (in_state Trading s)))
         go (enters k q) = record {
           state_is = skip 5 _ _ _ plain.no_close (skip 4 _ _ _ (λ z. plain.no_pause z.0) (skip 3 _ _ _ plain.no_pause
               (take 2 _ _ _ (l, k) (ap state_of q))));
@@ -140,8 +140,8 @@ module _ (h : Whole) (e : Event Message Notice) where
         }
 
     -- a reference starts, and the stock is in Trading
-    pub begun : (s : Stock) (r : Mean) → Come h e s → Starts h e r → Changed h e (begin_trading_lem r s)
-    unfolding begin_trading_lem
+    pub begun : (s : Stock) (r : Mean) → Come h e s → Starts h e r → Changed h e (begin_trading r s)
+    unfolding begin_trading
     begun s r c k = by_look s (record { price = r; start = clock_of s; hold = 1 }) c (inl (r, k)) (inl (k, (c.clock, refl)))
 
     -- no reference starts, and the quotes are looked at in Trading, on a quote or on w

@@ -8,7 +8,7 @@ use mathlib.Core.Path.{◌≡◌, refl, ap, subst}
 use native.Mathlib.Omega.{arith}
 use borrow.Author.Tests.{eq-eqb, ne_eqb}
 use lib.Dec.{T as Given, leb, eqb}
-use Rattle.forms.specs.Choice.{if◌then◌else◌, any_of}
+use Rattle.forms.specs.Choice.{if◌then◌otherwise◌, any_of}
 use Rattle.forms.proofs.Decides.{Decides, words, reworded, by_le}
 use Rattle.rules.specs.Stock.{Trade, Whole, oldest, figures_of}
 use Rattle.rules.specs.Moments.{no_moment, Row, moment_table, sooner, earliest, next, next_of, due_by, past_at}
@@ -64,7 +64,7 @@ pub data Foremost (m : Moment) (cs : List Coming) : Type 0 where
 -- a row in front of the rest, of which m comes first
 foremost_row : (mark t : ℕ) (b : Bool) (C : Type 0) (m : Moment) (cs : List Coming) → ¬ (mark ≡ 0) → Decides b C → Foremost m cs
     → Foremost (sooner (record { mark = mark; time = t; comes = b }) m) (record { mark = mark; time = t; comes = C } ∷ cs)
-unfolding sooner if◌then◌else◌ any_of
+unfolding sooner if◌then◌otherwise◌ any_of
 foremost_row mark t false C m cs n d (is_first i f) = is_first i (inr ((λ c. absurd (d.fails refl c)), f))
 foremost_row mark t false C m cs n d (is_none z f) = is_none z none
   where
@@ -75,7 +75,7 @@ foremost_row mark t true C m cs n d (is_none z f) = rw (eq-eqb m.mark 0 (ap (λ 
 foremost_row mark t true C m cs n d (is_first i f) = rw (ne_eqb m.mark 0 i) (go (leb t m.time) (by_le t m.time))
   where
     go : (l : Bool) → Decides l (t ≤ m.time)
-        → Foremost (if any_of (false ∷ l ∷ []) then record { mark = mark; time = t } else m) (record { mark = mark; time = t; comes = C } ∷ cs)
+        → Foremost (if any_of (false ∷ l ∷ []) then record { mark = mark; time = t } otherwise m) (record { mark = mark; time = t; comes = C } ∷ cs)
     go true l = is_first n (inl (d.holds refl, (refl, (refl, λ k. none_before m cs f (weaker _ _ cs (λ s q. omega (arith, l.holds refl)) k)))))
     go false l = is_first i (inr ((λ _. let k = l.fails refl in omega arith), f))
 

@@ -3,14 +3,13 @@
 use Prim.Native.Nat.{ℕ}
 use mathlib.Core.List.{List, [], ◌∷◌}
 use mathlib.Core.Logic.{◌⊎◌, inl, inr, ⊎_elim}
-use mathlib.Core.Path.{◌≡◌, refl, sym, ap, ◌∙◌}
+use mathlib.Core.Path.{◌≡◌, refl, sym, ◌∙◌}
 use native.Mathlib.Omega.{arith}
 use borrow.Author.Tests.{eq-eqb, ne_eqb, eqb-true}
 use Rattle.forms.specs.Words.{Number, Gives}
 use Rattle.forms.specs.Words.Number.{◌for◌}
 use Rattle.forms.proofs.Choice.{if_true, if_false, if_arms}
 use Rattle.forms.proofs.Decides.{Decides, words, is_true, is_false, either_way, take, skip}
-use Rattle.rules.specs.Stock.{Whole, clock_of}
 use Rattle.rules.specs.Totals.{wrong_totals}
 use Rattle.rules.specs.Counted as counted
 use Rattle.rules.specs.Counted.{Counted, or_wrong}

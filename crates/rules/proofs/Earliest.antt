@@ -7,7 +7,7 @@ use mathlib.Core.Path.{◌≡◌, refl, sym, ap, ◌∙◌, subst}
 use native.Mathlib.Omega.{arith}
 use borrow.Author.Tests.{leb-true, leb-false, eqb-true, eqb-false}
 use lib.Dec.{leb, eqb}
-use Rattle.forms.specs.Choice.{if◌then◌else◌, any_of}
+use Rattle.forms.specs.Choice.{if◌then◌otherwise◌, any_of}
 use Rattle.rules.specs.Moments.{Row, sooner, earliest}
 use Rattle.rules.specs.declared.Moment.{Moment}
 
@@ -30,7 +30,7 @@ pub data First (r : Row) (rs : List Row) : Type 0 where
   tail : earliest (r ∷ rs) ≡ earliest rs → (r.comes ≡ true → IsMoment (earliest rs) × ((earliest rs).time < r.time)) → First r rs
 
 pub first_row : (r : Row) (rs : List Row) → First r rs
-unfolding earliest sooner if◌then◌else◌ any_of
+unfolding earliest sooner if◌then◌otherwise◌ any_of
 first_row r rs = go r.comes refl (eqb (earliest rs).mark 0) refl (leb r.time (earliest rs).time) refl
   where
     m : Moment

@@ -9,12 +9,12 @@ use native.Mathlib.Omega.{arith}
 use borrow.Author.Tests.{eqb-true, le-ltb, ne_eqb}
 use lib.Dec.{eqb}
 use lib.ListN.{length}
-use Rattle.forms.specs.Choice.{if◌then◌else◌, any_of}
+use Rattle.forms.specs.Choice.{if◌then◌otherwise◌, any_of}
 use Rattle.forms.proofs.Choice.{if_arms, all_head, all_tail}
 use Rattle.band.specs.declared.Mean.{Mean}
 use Rattle.rules.specs.Stock.{Trade, Whole, Waiting, Trading, Limit, Paused, Late, state_of, clock_of, is, at_time, in_state, enter_limit, enter_pause, not_early, refer_to, hold_ended, oldest, figures_of, mean_in, staying}
-use Rattle.rules.specs.States.{look, begin_trading_lem, test, begin_pause_lem, shut}
-use Rattle.rules.specs.Moments.{limit_lasts, first_five_lem, effect, window_after, come, next_of, fire}
+use Rattle.rules.specs.States.{look, begin_trading, test, begin_pause, shut}
+use Rattle.rules.specs.Moments.{limit_lasts, first_five, effect, window_after, come, next_of, fire}
 use Rattle.rules.specs.Messages.{after}
 use Rattle.rules.specs.Numbers.{fresh, notice}
 use Rattle.rules.specs.Machine.{message, moment, Lawful, left}
@@ -33,7 +33,7 @@ use Rattle.rules.proofs.MomentRows.{IsRow, row_z, row_w_early, row_w_late, row_x
 
 -- how far the holds have come: each h brings them 30,000 on
 abbrev hold_time : Stock → ℕ
-hold_time s = if eqb s.reference.hold 0 then clock_of s else s.reference.start
+hold_time s = if eqb s.reference.hold 0 then clock_of s otherwise s.reference.start
 
 -- what a limit state lacks of 300,000
 abbrev rest : ℕ
@@ -41,7 +41,7 @@ rest = 300_000 - limit_lasts
 
 -- how far the limit states and pauses have come: x brings them 300,000 on, and p more than that
 abbrev pause_time : Stock → ℕ
-pause_time s = if is Limit s then s.course.entry else if is Paused s then s.course.pause + rest else clock_of s
+pause_time s = if is Limit s then s.course.entry otherwise if is Paused s then s.course.pause + rest otherwise clock_of s
 
 gone : Stock → ℕ
 gone s = 10 * hold_time s + pause_time s
@@ -86,8 +86,8 @@ gone_by s r =
 
 -- ------------------------------------------------------------------ the rules
 
-if_le : (b : Bool) {x y x' y' : ℕ} → x ≤ x' → y ≤ y' → (if b then x else y) ≤ (if b then x' else y')
-unfolding if◌then◌else◌
+if_le : (b : Bool) {x y x' y' : ℕ} → x ≤ x' → y ≤ y' → (if b then x otherwise y) ≤ (if b then x' otherwise y')
+unfolding if◌then◌otherwise◌
 if_le true p q = p
 if_le false p q = q
 
@@ -105,7 +105,7 @@ unfolding look
 look_spends n s = if_arms (Spends 0 n s n) _ (λ t. limit_spends (eqb-true _ _ (all_head _ _ t))) (λ _. omega arith)
   where
     limit_spends : state_of s ≡ Trading → Spends 0 n s n (enter_limit s)
-    limit_spends e = unfold still gone if◌then◌else◌ in rw e (omega arith)
+    limit_spends e = unfold still gone if◌then◌otherwise◌ in rw e (omega arith)
 
 test_spends : (n : ℕ) (f : Figures) (s : Stock) → Spends 0 n s n (test f s)
 unfolding test
@@ -116,44 +116,44 @@ test_spends n f s = if_arms (Spends 0 n s n) _ (λ t. refer_spends (eqb-true _ _
 
     refer_spends : s.reference.hold ≡ 0 → Spends 0 n s n (look s')
     refer_spends e =
-        let a : Spends 0 n s n s' = unfold still gone if◌then◌else◌ in rw e (omega arith) in
+        let a : Spends 0 n s n s' = unfold still gone if◌then◌otherwise◌ in rw e (omega arith) in
         omega (arith, look_spends n s')
 
 -- k later than the limit states and pauses had come
 trading_spends : (k n : ℕ) (price : Mean) (s : Stock) → Ranges s → state_of s ≤ Paused → k + pause_time s ≤ clock_of s
-    → Spends k n s n (begin_trading_lem price s)
-unfolding begin_trading_lem
+    → Spends k n s n (begin_trading price s)
+unfolding begin_trading
 trading_spends k n price s r l p =
     let s' : Stock = in_state Trading (refer_to price s) in
-    let a : Spends k n s n s' = unfold still gone if◌then◌else◌ in omega (arith, (gone_by s r).0) in
+    let a : Spends k n s n s' = unfold still gone if◌then◌otherwise◌ in omega (arith, (gone_by s r).0) in
     omega (arith, look_spends n s')
 
-pause_spends : (n : ℕ) (s : Stock) → state_of s ≡ Limit → clock_of s ≡ s.course.entry + limit_lasts → Spends 300_000 n s n (begin_pause_lem s)
-unfolding begin_pause_lem
+pause_spends : (n : ℕ) (s : Stock) → state_of s ≡ Limit → clock_of s ≡ s.course.entry + limit_lasts → Spends 300_000 n s n (begin_pause s)
+unfolding begin_pause
 pause_spends n s e c = if_arms (λ p. Spends 300_000 n s n (enter_pause p s)) _
-    (λ _. unfold still gone if◌then◌else◌ in rw e (omega arith)) (λ _. unfold still gone if◌then◌else◌ in rw e (omega arith))
+    (λ _. unfold still gone if◌then◌otherwise◌ in rw e (omega arith)) (λ _. unfold still gone if◌then◌otherwise◌ in rw e (omega arith))
 
 shut_spends : (n : ℕ) (s : Stock) → Ranges s → state_of s ≤ Late → Spends 300_000 n s 0 (shut s)
-unfolding shut still gone if◌then◌else◌
+unfolding shut still gone if◌then◌otherwise◌
 shut_spends n s r l = omega (arith, (gone_by s r).1)
 
 five_spends : (n : ℕ) (f : Figures) (s : Stock) → Ranges s → state_of s ≡ Waiting → (s.course.early ≡ 0 → ⊥)
-    → Spends 300_000 n s n (first_five_lem f s)
-unfolding first_five_lem
+    → Spends 300_000 n s n (first_five f s)
+unfolding first_five
 five_spends n f s r e y =
     let a : Spends 300_000 n s n (not_early s) = unfold still gone in omega arith in
-    let p : 0 + pause_time s ≤ clock_of s = unfold if◌then◌else◌ in rw e (omega arith) in
+    let p : 0 + pause_time s ≤ clock_of s = unfold if◌then◌otherwise◌ in rw e (omega arith) in
     if_arms (Spends 300_000 n s n) _ (λ _. a) (λ _. omega (arith, trading_spends 0 n (mean_in f) (not_early s) (omega arith) (omega arith) p))
 
 hold_spends : (n : ℕ) (s : Stock) → (s.reference.hold ≡ 0 → ⊥) → clock_of s ≡ s.reference.start + 30_000
     → Spends 300_000 n s n (hold_ended s)
-unfolding still gone if◌then◌else◌
+unfolding still gone if◌then◌otherwise◌
 hold_spends n s y c = rw (ne_eqb _ 0 y) (omega arith)
 
 -- v lets a trade leave
 trade_spends : (t : ℕ) (w : List Trade) (s : Stock) → (length w ≡ 0 → ⊥) → t ≡ oldest w + 300_000
     → Spends 300_000 (length w) s (length (staying t w)) s
-unfolding still staying oldest if◌then◌else◌
+unfolding still staying oldest if◌then◌otherwise◌
 trade_spends t [] s y e = absurd (y refl)
 trade_spends t (a ∷ w) s y e = rw (le-ltb t (a.at + 300_000) (omega arith)) (omega (arith, fewer t w))
 
@@ -161,7 +161,7 @@ trade_spends t (a ∷ w) s y e = rw (le-ltb t (a.at + 300_000) (omega arith)) (o
 
 come_spends : (m : Moment) (h : Whole) → Ranges h.stock → clock_of h.stock ≤ m.time → IsRow (figures_of h.window) h.stock m
     → Spends 300_000 (length h.window) h.stock (length (come m h).window) (come m h).stock
-unfolding come effect window_after figures_of if◌then◌else◌ any_of
+unfolding come effect window_after figures_of if◌then◌otherwise◌ any_of
 come_spends m h r l row = go row
   where
     s : Stock

@@ -7,7 +7,7 @@ use mathlib.Core.Path.{◌≡◌, refl, sym, ap, subst}
 use native.Mathlib.Omega.{arith}
 use borrow.Author.Tests.{ne_eqb, eq-eqb}
 use lib.ListN.{length}
-use Rattle.forms.specs.Choice.{if◌then◌else◌, any_of}
+use Rattle.forms.specs.Choice.{if◌then◌otherwise◌, any_of}
 use Rattle.forms.specs.Words.{Some, IsOneOf}
 use Rattle.forms.proofs.Choice.{if_true, if_false, if_arms}
 use Rattle.forms.proofs.Decides.{either_way, by_eq, listed, numbers_in, past}
@@ -58,6 +58,7 @@ record InRange (s : Stock) : Type 0 where
 
 -- what holds for every number of a list holds for one of them
 one_of : (Holds : ℕ → Type 0) (n : ℕ) (l : List ℕ) → Every Holds l → IsOneOf n l → Holds n
+one_of Holds n [] a m = elim m [ ]
 one_of Holds n (k ∷ l) a (inl q) = subst Holds (sym q) a.0
 one_of Holds n (k ∷ l) a (inr m) = one_of Holds n l a.1 m
 
@@ -119,7 +120,7 @@ numbers_most (X time participant price) h = omega arith
 
 -- after 1 the answer has zeros, whatever the stock; every other number is given to a stock that is not rubbish
 one_fits : (s : Stock) → AnswerInRange (answer 1 s)
-unfolding answer if◌then◌else◌ any_of
+unfolding answer if◌then◌otherwise◌ any_of
 one_fits s = zeros_fit 1 (omega arith)
 
 module _ (h : Whole) (bids : length h.stock.quotes.bids ≡ 16) (offers : length h.stock.quotes.offers ≡ 16) where

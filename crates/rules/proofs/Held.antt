@@ -9,12 +9,12 @@ use native.Mathlib.Omega.{arith}
 use borrow.Author.Tests.{leb-true, ltb-false, eqb-true, lt-ltb, le-ltb, le-leb}
 use lib.Dec.{lit≤, leb, ltb, eqb}
 use lib.ListN.{length}
-use Rattle.forms.specs.Choice.{if◌then◌else◌, all_of, any_of}
+use Rattle.forms.specs.Choice.{if◌then◌otherwise◌, all_of, any_of}
 use Rattle.forms.proofs.Choice.{if_true, if_false, if_arms, all_tail, all_yes, all_empty, ne_not, all_leb, all_eqb}
 use Rattle.forms.specs.Words.{Gives}
 use Rattle.forms.proofs.Decides.{is_false, past}
 use Rattle.rules.specs.Stock.{hold_ended, Trade, Whole, state_of, clock_of, oldest, figures_of, staying}
-use Rattle.rules.specs.States.{begin_pause_lem}
+use Rattle.rules.specs.States.{begin_pause}
 use Rattle.rules.specs.Moments.{mark_v, moment_table, next, effect, window_after, come, next_of, fire}
 use Rattle.rules.specs.Messages.{time_of, does, after}
 use Rattle.rules.specs.Numbers.{tells, settles, fresh, notice}
@@ -43,12 +43,12 @@ use native.Mathlib.Decide.{ℕ_discrete}
 -- ------------------------------------------------------------------ recent trades
 
 recent_snoc : (time : ℕ) (a : Trade) (l : List Trade) → time < a.at + 300_000 → recent time (l ++ (a ∷ [])) ≡ recent time l ++ (a ∷ [])
-unfolding recent if◌then◌else◌
+unfolding recent if◌then◌otherwise◌
 recent_snoc time a [] h = rw (lt-ltb time (a.at + 300_000) h)
 recent_snoc time a (b ∷ l) h = go (recent_snoc time a l h) (ltb time (b.at + 300_000))
   where
     go : recent time (l ++ (a ∷ [])) ≡ recent time l ++ (a ∷ []) → (c : Bool)
-        → (if c then b ∷ recent time (l ++ (a ∷ [])) else recent time (l ++ (a ∷ []))) ≡ (if c then b ∷ recent time l else recent time l) ++ (a ∷ [])
+        → (if c then b ∷ recent time (l ++ (a ∷ [])) otherwise recent time (l ++ (a ∷ []))) ≡ (if c then b ∷ recent time l otherwise recent time l) ++ (a ∷ [])
     go ih true = ap (λ z. b ∷ z) ih
     go ih false = ih
 
@@ -58,7 +58,7 @@ recent_twice c d h [] = refl
 recent_twice c d h (a ∷ l) =
     let ih = recent_twice c d h l in
     if_arms (λ z. recent d z ≡ recent d (a ∷ l)) (ltb c (a.at + 300_000))
-    (λ _. ap (λ z. if ltb d (a.at + 300_000) then a ∷ z else z) ih)
+    (λ _. ap (λ z. if ltb d (a.at + 300_000) then a ∷ z otherwise z) ih)
     (λ e. ih ∙ sym (if_false _ _ _ (le-ltb d (a.at + 300_000) (omega (arith, ltb-false c (a.at + 300_000) e)))))
 
 -- ------------------------------------------------------------------ a stock to which something happens is not closed
@@ -96,8 +96,8 @@ moment_low h is =
 stands_low : Stands Low
 stands_low = record { in_limit = λ s l. lit≤ tt; referred = λ r s l. l; in_trading = λ r s l. lit≤ tt }
 
-pause_low : (s : Stock) → Low (begin_pause_lem s)
-unfolding begin_pause_lem
+pause_low : (s : Stock) → Low (begin_pause s)
+unfolding begin_pause
 pause_low s = if_arms (λ n. n ≤ 4) _ (λ _. lit≤ tt) (λ _. lit≤ tt)
 
 effect_low : (mark : ℕ) (f : Figures) (s : Stock) → closing_mark mark ≡ false → Low s → Low (effect mark f s)
@@ -144,12 +144,12 @@ message_holds m h l i e =
     go (X t j a) k = (t, omega arith, refl)
 
 moment_window : (m : Moment) (clock cut : ℕ) (w l : List Trade) → InOrder 0 clock w → cut ≤ m.time → w ≡ recent cut l
-    → (d : ℕ) × (d ≤ m.time) × (window_after m w ≡ recent d (if closing_mark m.mark then [] else l))
-unfolding window_after recent if◌then◌else◌ any_of
+    → (d : ℕ) × (d ≤ m.time) × (window_after m w ≡ recent d (if closing_mark m.mark then [] otherwise l))
+unfolding window_after recent if◌then◌otherwise◌ any_of
 moment_window m clock cut w l o by held = go (eqb m.mark mark_v) refl (closing_mark m.mark) refl
   where
     go : (v : Bool) → eqb m.mark mark_v ≡ v → (c : Bool) → closing_mark m.mark ≡ c
-        → (d : ℕ) × (d ≤ m.time) × ((if v then staying m.time w else if c then [] else w) ≡ recent d (if c then [] else l))
+        → (d : ℕ) × (d ≤ m.time) × ((if v then staying m.time w otherwise if c then [] otherwise w) ≡ recent d (if c then [] otherwise l))
     go true p true q = absurd (true≢false (sym q ∙ rw (eqb-true m.mark mark_v p)))
     go true p false q =
         (m.time, omega arith, staying_recent m.time clock 0 w o ∙ (ap (recent m.time) held ∙ recent_twice cut m.time by l))
@@ -157,7 +157,7 @@ moment_window m clock cut w l o by held = go (eqb m.mark mark_v) refl (closing_m
     go false p false q = (cut, by, held)
 
 moment_holds : (t : ℕ) (h : Whole) (l : List Trade) → Holds h l → settles t h ≡ 0 → Holds (fire h) (joins l (moment (notice h)))
-unfolding fire come notice recent if◌then◌else◌
+unfolding fire come notice recent if◌then◌otherwise◌
 moment_holds t h l i e =
     let k = machine_laws.forward t h e in
     let r = moment_window (next_of h) _ i.cut h.window l (window_in_order h (settled_sound t h e)) (omega (arith, i.cut_by)) i.held in
@@ -168,7 +168,7 @@ moment_holds t h l i e =
       live = live r.0 r.2 (closing_mark (next_of h).mark) refl;
     }
   where
-    live : (d : ℕ) → (fire h).window ≡ recent d (if closing_mark (next_of h).mark then [] else l)
+    live : (d : ℕ) → (fire h).window ≡ recent d (if closing_mark (next_of h).mark then [] otherwise l)
         → (c : Bool) → closing_mark (next_of h).mark ≡ c → Low (fire h).stock ⊎ ((fire h).window ≡ [])
     live d w true q = inr (w ∙ rw q)
     live d w false q = inl (effect_low _ _ _ q (moment_low h (when_due t (next_of h) (settled t h e).due).0))

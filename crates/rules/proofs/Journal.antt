@@ -11,7 +11,7 @@ use borrow.Author.Tests.{eqb-true, eqb-false, eq-eqb, ne_eqb, lt-ltb}
 use lib.Dec.{eqb}
 use lib.ListN.{length}
 use lib.Seq.{get_or-set_same, get_or-set_other}
-use Rattle.forms.specs.Choice.{if◌then◌else◌}
+use Rattle.forms.specs.Choice.{if◌then◌otherwise◌}
 use Rattle.forms.specs.Words.{Some}
 use Rattle.forms.proofs.Choice.{if_true, if_false}
 use Rattle.rules.specs.Machine.{Machine, Call, settle, On, of, Every, journal, IsJournal, History, number, done, event, Asked, number_of, called, Book, Calls, stock, number_in, step_in, happens, run, log, asked}
@@ -20,7 +20,7 @@ use Rattle.rules.proofs.Alike.{of_append, length_step, length_run}
 
 -- a journal has every call that was answered 0, and no other
 pub journal_is : JournalIs
-unfolding if◌then◌else◌
+unfolding if◌then◌otherwise◌
 journal_is A n [] = (refl, tt)
 journal_is A n (x ∷ xs) = go (eqb (n x) 0) refl (journal_is A n xs)
   where
@@ -33,15 +33,15 @@ journal_is A n (x ∷ xs) = go (eqb (n x) 0) refl (journal_is A n xs)
 
 -- a longer one has the same that were answered 0
 pub same_accepted : {A : Type 0} (n : A → ℕ) (xs es : List A) → IsJournal n xs es → journal n xs ≡ journal n es
-unfolding if◌then◌else◌
+unfolding if◌then◌otherwise◌
 same_accepted n [] es k = rw k
 same_accepted {A = A} n (x ∷ xs) es (inl k) =
-    subst (λ l. journal n (x ∷ xs) ≡ journal n l) (sym k.1) (ap (λ (l : List A). if eqb (n x) 0 then x ∷ l else l) (same_accepted n xs k.0 k.2))
+    subst (λ l. journal n (x ∷ xs) ≡ journal n l) (sym k.1) (ap (λ (l : List A). if eqb (n x) 0 then x ∷ l otherwise l) (same_accepted n xs k.0 k.2))
 same_accepted n (x ∷ xs) es (inr k) = if_false _ _ _ (ne_eqb _ 0 k.0) ∙ same_accepted n xs es k.1
 
 -- with some left out there are no more of those
 no_more : {A : Type 0} (n : A → ℕ) {es xs : List A} → Sublistᴰ es xs → length (journal n es) ≤ length (journal n xs)
-unfolding if◌then◌else◌
+unfolding if◌then◌otherwise◌
 no_more n Sublistᴰ.slnil = omega arith
 no_more {A = A} n (Sublistᴰ.cons {a = a} {l₁ = es} {l₂ = xs} s) = go (eqb (n a) 0) refl (no_more n s)
   where
@@ -62,7 +62,7 @@ left_out n (x ∷ xs) es (inr k) = Sublistᴰ.cons (left_out n xs es k.1)
 
 -- a call that is left out was refused, since the others have too few
 pub journals_are : JournalsAre
-unfolding if◌then◌else◌
+unfolding if◌then◌otherwise◌
 journals_are A n [] es = ((λ k. (left_out n [] es k, ap (journal n) k)), (λ k. Sublistᴰ.eq-nil k.0))
 journals_are A n (x ∷ xs) es = (
   (λ k. (left_out n (x ∷ xs) es k, sym (same_accepted n (x ∷ xs) es k))),
@@ -83,7 +83,7 @@ journals_are A n (x ∷ xs) es = (
     go (inr k) b q e rest = inl (k.0, k.1, rest k.0 k.2 (same_rest b q k.0 (subst (λ l. journal n l ≡ journal n (x ∷ xs)) k.1 e)))
 
 pub journal_append : {A : Type 0} (n : A → ℕ) (xs ys : List A) → journal n (xs ++ ys) ≡ journal n xs ++ journal n ys
-unfolding if◌then◌else◌
+unfolding if◌then◌otherwise◌
 journal_append n [] ys = refl
 journal_append {A = A} n (x ∷ xs) ys = go (eqb (n x) 0) refl (journal_append n xs ys)
   where
@@ -98,10 +98,10 @@ module _ (𝓜 : Machine) where
 
   -- the stock after a call, and what the call made happen
   abbrev next : Call Message → Stock → Stock
-  next c s = if eqb (number 𝓜 c s) 0 then done 𝓜 c s else s
+  next c s = if eqb (number 𝓜 c s) 0 then done 𝓜 c s otherwise s
 
   abbrev makes : Call Message → Stock → History 𝓜
-  makes c s = if eqb (number 𝓜 c s) 0 then event 𝓜 c s ∷ [] else []
+  makes c s = if eqb (number 𝓜 c s) 0 then event 𝓜 c s ∷ [] otherwise []
 
   -- the same of calls in a row, and what each of them finds
   abbrev ends : Stock → List (Call Message) → Stock
@@ -126,7 +126,7 @@ module _ (𝓜 : Machine) where
   ends_append s (c ∷ cs) ds = ends_append (next c s) cs ds
 
   accepts_append : (s : Stock) (cs ds : List (Call Message)) → accepts s (cs ++ ds) ≡ accepts s cs ++ accepts (ends s cs) ds
-  unfolding if◌then◌else◌
+  unfolding if◌then◌otherwise◌
   accepts_append s [] ds = refl
   accepts_append s (c ∷ cs) ds = go (eqb (number 𝓜 c s) 0) refl (λ s'. accepts_append s' cs ds)
     where
@@ -155,7 +155,7 @@ module _ (𝓜 : Machine) where
   Decided s cs = let es = called 𝓜 (accepts s cs) in (ends s cs ≡ through s es) × (tale s cs ≡ events s es) × (accepts s cs ≡ finds s es)
 
   decided : (s : Stock) (cs : List (Call Message)) → Decided s cs
-  unfolding if◌then◌else◌
+  unfolding if◌then◌otherwise◌
   decided s [] = (refl, refl, refl)
   decided s (c ∷ cs) = go (eqb (number 𝓜 c s) 0) refl (λ s'. decided s' cs)
     where
@@ -187,7 +187,7 @@ module _ (𝓜 : Machine) where
 
     -- once it is refused, all are
     quiet : (s : Stock) (cs : List (Call Message)) → Settlings cs → Refuses s → accepts s cs ≡ []
-    unfolding if◌then◌else◌
+    unfolding if◌then◌otherwise◌
     quiet s [] k n = refl
     quiet s (c ∷ cs) k n =
         subst (λ x. accepts s (x ∷ cs) ≡ []) (sym k.0) (rw (ne_eqb _ 0 n) (quiet s cs k.1 n))
@@ -195,13 +195,13 @@ module _ (𝓜 : Machine) where
     -- while it is accepted, the first is
     first : (s : Stock) (c : Call Message) (cs : List (Call Message)) → c ≡ settle time → eqb (settles time s) 0 ≡ true
         → (accepts s (c ∷ cs) ≡ record { call = settle time; found = s } ∷ accepts (fire s) cs) × (ends s (c ∷ cs) ≡ ends (fire s) cs)
-    unfolding if◌then◌else◌
+    unfolding if◌then◌otherwise◌
     first s c cs e q =
         subst (λ x. (accepts s (x ∷ cs) ≡ record { call = settle time; found = s } ∷ accepts (fire s) cs) × (ends s (x ∷ cs) ≡ ends (fire s) cs)) (sym e)
         (rw q (refl, refl))
 
     same : (s : Stock) (cs ds : List (Call Message)) → Settlings cs → Refuses (ends s cs) → Settlings ds → Refuses (ends s ds) → accepts s cs ≡ accepts s ds
-    unfolding if◌then◌else◌
+    unfolding if◌then◌otherwise◌
     same s [] ds k m l n = sym (quiet s ds l m)
     same s (c ∷ cs) [] k m l n = quiet s (c ∷ cs) k n
     same s (c ∷ cs) (d ∷ ds) k m l n = go (eqb (settles time s) 0) refl (same (fire s) cs ds k.1)
@@ -238,7 +238,7 @@ module _ (𝓜 : Machine) where
       Steps i s es = (at (step_in 𝓜 blank b c) i ≡ s) × (of i (happens 𝓜 blank b c) ≡ es)
 
       own : c.at < length b → Steps c.at (next c.it (at b c.at)) (makes c.it (at b c.at))
-      unfolding step_in happens of number_in if◌then◌else◌
+      unfolding step_in happens of number_in if◌then◌otherwise◌
       own l = go (eqb (number 𝓜 c.it (at b c.at)) 0) refl
         where
           go : (x : Bool) → eqb (number 𝓜 c.it (at b c.at)) 0 ≡ x → Steps c.at (next c.it (at b c.at)) (makes c.it (at b c.at))
@@ -246,7 +246,7 @@ module _ (𝓜 : Machine) where
           go false q = rw (lt-ltb c.at (length b) l, q) (refl, refl)
 
       other : (i : ℕ) → ¬ (i ≡ c.at) → Steps i (at b i) []
-      unfolding step_in happens of if◌then◌else◌
+      unfolding step_in happens of if◌then◌otherwise◌
       other i n = go (eqb (number_in 𝓜 blank b c) 0) refl
         where
           go : (x : Bool) → eqb (number_in 𝓜 blank b c) 0 ≡ x → Steps i (at b i) []
@@ -260,7 +260,7 @@ module _ (𝓜 : Machine) where
       pub met : of i (asked 𝓜 blank b cs) ≡ asks (at b i) (of i cs)
 
     alone : (b : Book 𝓜) (cs : Calls 𝓜) (i : ℕ) → i < length b → Alone b cs i
-    unfolding of if◌then◌else◌
+    unfolding of if◌then◌otherwise◌
     alone b [] i l = record { ended = refl; told = refl; met = refl }
     alone b (c ∷ cs) i l = go (eqb i c.at) refl (alone (step_in 𝓜 blank b c) cs i (rw (length_step 𝓜 blank b c) l))
       where

@@ -10,12 +10,12 @@ use borrow.Author.Tests.{ne_eqb, eqb-true, eqb-false}
 use lib.Dec.{eqb}
 use lib.ListN.{length, get_or, set, replicate, length-set, get_or-replicate}
 use lib.Seq.{get_or-set_same, get_or-set_other}
-use Rattle.forms.specs.Choice.{if◌then◌else◌}
+use Rattle.forms.specs.Choice.{if◌then◌otherwise◌}
 use Rattle.forms.proofs.Choice.{if_arms, any_head, any_tail, any_not, any_empty}
 use Rattle.rules.specs.Stock.{Whole, hold_ended}
-use Rattle.rules.specs.States.{look, begin_trading_lem, test, begin_pause_lem, no_quotes, shut}
-use Rattle.rules.specs.Moments.{mark_z, mark_c, first_five_lem, effect, come, next_of, fire}
-use Rattle.rules.specs.Messages.{letter_q, with_quote_lem, does, after}
+use Rattle.rules.specs.States.{look, begin_trading, test, begin_pause, no_quotes, shut}
+use Rattle.rules.specs.Moments.{mark_z, mark_c, first_five, effect, come, next_of, fire}
+use Rattle.rules.specs.Messages.{letter_q, with_quote, does, after}
 use Rattle.rules.specs.Numbers.{fresh, notice}
 use Rattle.rules.specs.Machine.{Event, message, moment, Lawful, left, becomes}
 use Rattle.rules.specs.Book.{machine, Story}
@@ -50,7 +50,7 @@ closing_mark_lem mark e = go (eqb mark mark_z) refl (eqb mark mark_c) refl
     go false p false q = absurd (true≢false (sym e ∙ any_not _ _ p (any_not _ _ q any_empty)))
 
 effect_closing : (mark : ℕ) (f : Figures) (s : Stock) → closing_mark mark ≡ true → effect mark f s ≡ shut s
-unfolding effect if◌then◌else◌
+unfolding effect if◌then◌otherwise◌
 effect_closing mark f s e = go (closing_mark_lem mark e)
   where
     go : (mark ≡ mark_z) ⊎ (mark ≡ mark_c) → effect mark f s ≡ shut s
@@ -58,8 +58,8 @@ effect_closing mark f s e = go (closing_mark_lem mark e)
     go (inr p) = rw p
 
 -- what each of the other effects gives, a moment that does not close gives
-pub effect_open : (F : Stock → Type 0) (mark : ℕ) (f : Figures) (s : Stock) → closing_mark mark ≡ false → F (look s) → F (begin_pause_lem s)
-    → F (begin_trading_lem s.reference.price s) → F (test f s) → F (first_five_lem f s) → F (test f (hold_ended s)) → F (effect mark f s)
+pub effect_open : (F : Stock → Type 0) (mark : ℕ) (f : Figures) (s : Stock) → closing_mark mark ≡ false → F (look s) → F (begin_pause s)
+    → F (begin_trading s.reference.price s) → F (test f s) → F (first_five f s) → F (test f (hold_ended s)) → F (effect mark f s)
 effect_open F mark f s e w x p v five h =
     effect_by F mark f s (λ z. absurd (eqb-false mark _ (any_head _ _ e) z)) (λ _. w) (λ _. x) (λ _. p)
     (λ c. absurd (eqb-false mark _ (any_head _ _ (any_tail _ _ e)) c)) (λ _. v) (λ _. five) h
@@ -84,15 +84,15 @@ none_quoted : (i : ℕ) → i ≤ 15 → Quoted i no_quotes (0, 0)
 none_quoted i l = let none : Holds i (replicate 16 0) 0 = (refl, get_or-replicate {A = ℕ} 16 i 0 0 (omega arith)) in quoted i no_quotes (0, 0) none none
 
 set_quoted : (i : ℕ) → i ≤ 15 → (t j b o : ℕ) (s : Stock) (last : ℕ × ℕ) → Quoted i s.quotes last
-    → Quoted i (with_quote_lem j b o s).quotes (quote_by i last (message (Q t j b o)))
+    → Quoted i (with_quote j b o s).quotes (quote_by i last (message (Q t j b o)))
 set_quoted i l t j b o s last h =
     let q = s.quotes in
     let bids : Holds i q.bids last.0 = (h.0, h.1.0) in
     let offers : Holds i q.offers last.1 = (h.1.1.0, h.1.1.1) in
-    if_arms (Quoted i (with_quote_lem j b o s).quotes) (eqb j i)
-    (λ e. let same = eqb-true j i e in rw same (quoted i (with_quote_lem i b o s).quotes (b, o) (set_same i b last.0 q.bids l bids) (set_same i o last.1 q.offers l offers)))
+    if_arms (Quoted i (with_quote j b o s).quotes) (eqb j i)
+    (λ e. let same = eqb-true j i e in rw same (quoted i (with_quote i b o s).quotes (b, o) (set_same i b last.0 q.bids l bids) (set_same i o last.1 q.offers l offers)))
     (λ e. let other : i ≡ j → ⊥ = λ p. eqb-false j i e (sym p) in
-    quoted i (with_quote_lem j b o s).quotes last (set_other i j b last.0 q.bids other bids) (set_other i j o last.1 q.offers other offers))
+    quoted i (with_quote j b o s).quotes last (set_other i j b last.0 q.bids other bids) (set_other i j o last.1 q.offers other offers))
 
 -- ------------------------------------------------------------------ they change by a quote and by closing only
 
@@ -102,17 +102,17 @@ stands_quotes F = record { in_limit = λ s e. e; referred = λ r s e. e; in_trad
 
 does_quoted : (m : Message) (h : Whole) (i : ℕ) (last : ℕ × ℕ) → i ≤ 15 → Quoted i h.stock.quotes last
     → Quoted i (does m h).stock.quotes (quote_by i last (message m))
-unfolding does begin_pause_lem shut
+unfolding does begin_pause shut
 does_quoted (T t a) h i last l k = trade_stands (stands_quotes (λ q. Quoted i q last)) _ _ k
-does_quoted (Q t j b o) h i last l k = quote_stands (stands_quotes (λ q. Quoted i q (quote_by i last (message (Q t j b o))))) _ (with_quote_lem j b o h.stock) (set_quoted i l t j b o h.stock last k)
+does_quoted (Q t j b o) h i last l k = quote_stands (stands_quotes (λ q. Quoted i q (quote_by i last (message (Q t j b o))))) _ (with_quote j b o h.stock) (set_quoted i l t j b o h.stock last k)
 does_quoted (O t j a) h i last l k = trading_stands (stands_quotes (λ q. Quoted i q last)) _ _ k
 does_quoted (P t j) h i last l k = k
 does_quoted (R t j a) h i last l k = trading_stands (stands_quotes (λ q. Quoted i q last)) _ _ k
 does_quoted (X t j a) h i last l k = none_quoted i l
 
 effect_quoted : (mark : ℕ) (f : Figures) (s : Stock) (i : ℕ) (last : ℕ × ℕ) → i ≤ 15 → Quoted i s.quotes last
-    → Quoted i (effect mark f s).quotes (if closing_mark mark then (0, 0) else last)
-unfolding shut begin_pause_lem
+    → Quoted i (effect mark f s).quotes (if closing_mark mark then (0, 0) otherwise last)
+unfolding shut begin_pause
 effect_quoted mark f s i last l k =
     let stands = stands_quotes (λ q. Quoted i q last) in
     if_arms (Quoted i (effect mark f s).quotes) (closing_mark mark)
@@ -128,7 +128,7 @@ quotes h (moment n) v i last l k = rw v.1 (effect_quoted (next_of h).mark _ _ i 
 -- all of them stay where nothing of this happens
 pub quotes_stay : (h : Whole) (e : Event Message Notice) → CanHappen h e → ¬ Closes e → ¬ (letter_of e ≡ letter_q)
     → (becomes machine h e).stock.quotes ≡ h.stock.quotes
-unfolding after does begin_pause_lem fire come notice
+unfolding after does begin_pause fire come notice
 quotes_stay h (message (T t a)) v c q = trade_stands (stands_quotes (λ q. q ≡ h.stock.quotes)) _ _ refl
 quotes_stay h (message (Q t i b o)) v c q = absurd (q refl)
 quotes_stay h (message (O t i a)) v c q = trading_stands (stands_quotes (λ q. q ≡ h.stock.quotes)) _ _ refl

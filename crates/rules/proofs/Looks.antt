@@ -8,7 +8,7 @@ use mathlib.Core.Path.{◌≡◌, refl, sym, ap, ◌∙◌}
 use native.Mathlib.Omega.{arith}
 use borrow.Author.Tests.{ltb-true, ltb-false, leb-true, leb-false, lt-ltb, le-ltb, le-leb, lt-leb}
 use lib.Dec.{ltb, leb}
-use Rattle.forms.specs.Choice.{if◌then◌else◌, any_of}
+use Rattle.forms.specs.Choice.{if◌then◌otherwise◌, any_of}
 use Rattle.forms.specs.Words.{◌and◌}
 use Rattle.forms.proofs.Decides.{is_true, is_false}
 use Rattle.band.specs.Band.{factor_of}
@@ -59,7 +59,7 @@ same_factor leverage end c t k = rw (below_same c t 900_000 k.0 k.1, from_same c
 -- two stocks in Trading with the same reference, setup, end and quotes, and the same k
 best_alike : (s s' : Stock) → state_of s ≡ Trading → state_of s' ≡ Trading → s'.reference.price ≡ s.reference.price → s'.setup ≡ s.setup
     → s'.end ≡ s.end → s'.quotes ≡ s.quotes → SameK s.end (clock_of s) (clock_of s') → best_of s' ≡ best_of s
-unfolding best_of bands_in in_force k_time any_of if◌then◌else◌
+unfolding best_of bands_in in_force k_time any_of if◌then◌otherwise◌
 best_alike s s' t t' p u e q k = rw (t, t', p, u, e, q, same_factor s.setup.leverage s.end (clock_of s) (clock_of s') k)
 
 -- ------------------------------------------------------------------ an event in Trading that does not look
@@ -116,9 +116,9 @@ one_more h e v i t k = go (state_after_lem h e v)
     go (stays c p n l q) =
         let before = sym q ∙ t in
         let x = event_kept h e [] v in
-        let same-k-at = same_k h e v before c l in
+        let same_k_at = same_k h e v before c l in
         i before (as_before (best_alike s s' before t (price l (reference h e v)) (ap (λ x. x.1) x) (ap (λ x. x.2) x)
-        (quotes_stay h e v c (λ z. l (inr (before, inl z)))) (rw (ap (λ x. x.0) x) same-k-at)))
+        (quotes_stay h e v c (λ z. l (inr (before, inl z)))) (rw (ap (λ x. x.0) x) same_k_at)))
 
 pub looked_at : QuotesLookedAt
 unfolding fresh

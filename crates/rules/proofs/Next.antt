@@ -7,14 +7,14 @@ use mathlib.Core.Path.{◌≡◌, refl, sym, ap, ◌∙◌, subst}
 use native.Mathlib.Omega.{arith}
 use borrow.Author.Tests.{eq-eqb, ne_eqb, eqb-true}
 use lib.ListN.{length}
-use Rattle.forms.specs.Choice.{if◌then◌else◌}
+use Rattle.forms.specs.Choice.{if◌then◌otherwise◌}
 use Rattle.forms.specs.Checks.{first}
 use Rattle.forms.specs.Words.{◌or◌, ◌and◌}
 use Rattle.forms.proofs.Choice.{if_true, if_false, if_arms}
 use Rattle.forms.proofs.Decides.{is_false, either_way, by_eq, by_le, not_le, past}
 use Rattle.rules.specs.Stock.{Whole, Late, state_of, figures_of}
 use Rattle.rules.specs.Moments.{due_by, next_of}
-use Rattle.rules.specs.Numbers.{not_time, rubbish, time_checks, settle_checks, settles, reads, notice, settle_answer, read_answer, none_coming, next_answer, zeros}
+use Rattle.rules.specs.Numbers.{not_time, rubbish, time_checks, settle_checks, settles, reads, notice, settle_answer, none_coming, next_answer, zeros}
 use Rattle.rules.specs.Machine.{stock}
 use Rattle.rules.specs.Counted as counted
 use Rattle.rules.specs.Counted.{Counted}
@@ -63,8 +63,8 @@ unfolding counted.next_answer
 next_number_with c = if_arms (λ (u : Upcoming). u.number ≡ counted.reads c) _ (λ e. sym (eqb-true _ 0 e)) (λ _. refl)
 
 -- a book's first checks give both one number, and so does the stock
-same_number : (b : Bool) (h : Counted) (c : ℕ) → (if b then counted.next_answer h else none_coming c).number ≡ (if b then counted.read_answer h else zeros c).number
-unfolding if◌then◌else◌ counted.read_answer
+same_number : (b : Bool) (h : Counted) (c : ℕ) → (if b then counted.next_answer h otherwise none_coming c).number ≡ (if b then counted.read_answer h otherwise zeros c).number
+unfolding if◌then◌otherwise◌ counted.read_answer
 same_number true h c = next_number_with h ∙ sym (number_of_lem (counted.reads h) h.whole.stock)
 same_number false h c = refl
 
@@ -137,7 +137,7 @@ next_fits h r = go (next_foremost h)
 
 -- of a stock that is no rubbish, to a time in range
 settles_by : (time : ℕ) (h : Whole) → rubbish h ≡ false → not_time h.stock.end time ≡ false
-    → settles time h ≡ (if not (due_by time (next_of h)) then 14 else 0)
+    → settles time h ≡ (if not (due_by time (next_of h)) then 14 otherwise 0)
 unfolding settles settle_checks time_checks first
 settles_by time h r t = simp (r, t, if_false)
 
@@ -155,7 +155,7 @@ module _ (h : Whole) (time : ℕ) (r : rubbish h ≡ false) (t : IsTime h.stock.
   in_time : ((settles time h ≡ 14) ↔ NotYet) × (¬ NotYet → Does)
   in_time = go (due_by time (next_of h)) refl
     where
-      by : settles time h ≡ (if not (due_by time (next_of h)) then 14 else 0)
+      by : settles time h ≡ (if not (due_by time (next_of h)) then 14 otherwise 0)
       by = settles_by time h r (is_false _ (not_le _ _) (λ n. n t))
 
       go : (d : Bool) → due_by time (next_of h) ≡ d → ((settles time h ≡ 14) ↔ NotYet) × (¬ NotYet → Does)

@@ -8,7 +8,7 @@ use mathlib.Core.Path.{◌≡◌, refl}
 use native.Mathlib.Omega.{arith}
 use lib.Dec.{eqb}
 use lib.ListN.{length}
-use Rattle.forms.specs.Choice.{if◌then◌else◌, any_of}
+use Rattle.forms.specs.Choice.{if◌then◌otherwise◌, any_of}
 use Rattle.forms.specs.Checks.{first}
 use Rattle.forms.specs.Checks.Check.{◌when◌}
 use Rattle.forms.specs.Words.{◌or◌, Number, Gives}
@@ -17,7 +17,6 @@ use Rattle.forms.proofs.Decides.{Decides, words, eq_stable, by_lt, row, passed_o
 use Rattle.rules.specs.Stock.{Whole, Waiting, Trading, Limit, Paused, Late, Closed, state_of}
 use Rattle.rules.specs.Messages.{kind, time_of, taken}
 use Rattle.rules.specs.Numbers.{rubbish, not_primary, own_checks, table_check, message_checks, checks, tells, time_checks, settle_checks, settles, read_checks, reads, setup_checks, sets_up}
-use Rattle.rules.specs.Machine.{stock}
 use Rattle.rules.specs.Words.{Due, Rubbish, OutOfRange, own_refusals, refusals, settle_refusals, read_refusals, setup_refusals}
 use Rattle.rules.specs.Demands.{NumbersAre, SetupNumbersAre}
 use Rattle.rules.specs.declared.Message.{Message}
@@ -40,13 +39,13 @@ state_below h n = let k : ¬ (5 < state_of h.stock) = λ l. n (inl (inl l)) in o
 
 -- a row of the table by tests; every cell is compared with these by computation
 taken_t : ℕ → ℕ
-taken_t state = if eqb state 5 then 7 else if any_of (eqb state 3 ∷ eqb state 4 ∷ []) then 11 else 0
+taken_t state = if eqb state 5 then 7 otherwise if any_of (eqb state 3 ∷ eqb state 4 ∷ []) then 11 otherwise 0
 
 taken_q : ℕ → ℕ
-taken_q state = if eqb state 5 then 7 else 0
+taken_q state = if eqb state 5 then 7 otherwise 0
 
 taken_in : ℕ → ℕ → ℕ
-taken_in there state = if eqb state 5 then 7 else if not (eqb state there) then 9 else 0
+taken_in there state = if eqb state 5 then 7 otherwise if not (eqb state there) then 9 otherwise 0
 
 by_taken_t : (state : ℕ) → Gives (7 for (state ≡ Closed) ∷ 11 for (state ≡ Paused or state ≡ Late) ∷ []) (taken_t state)
 unfolding taken_t
@@ -61,11 +60,11 @@ unfolding taken_in
 by_taken_in there state = search (words, choices)
 
 row_t : (state : ℕ) → state < 6 → Gives (7 for (state ≡ Closed) ∷ 11 for (state ≡ Paused or state ≡ Late) ∷ []) (taken 0 state)
-unfolding taken taken_t below if◌then◌else◌ any_of
+unfolding taken taken_t below if◌then◌otherwise◌ any_of
 row_t state l = rw (cells 6 (taken 0) taken_t refl state l) (by_taken_t state)
 
 row_q : (state : ℕ) → state < 6 → Gives (7 for (state ≡ Closed) ∷ []) (taken 1 state)
-unfolding taken taken_q below if◌then◌else◌
+unfolding taken taken_q below if◌then◌otherwise◌
 row_q state l = rw (cells 6 (taken 1) taken_q refl state l) (by_taken_q state)
 
 -- O, P, R and X are each taken in one state
@@ -78,7 +77,7 @@ row_in k there e state l = rw (cells 6 (taken k) (taken_in there) e state l) (by
 -- the checks from 8 on: the primary, the table, and the message's own
 own_given : (m : Message) (h : Whole) → let s = h.stock in state_of s < 6
     → Gives (own_refusals m h) (first (8 when not_primary s.setup.primary m ∷ table_check (taken (kind m) (state_of s)) (own_checks m (length h.window) s)))
-unfolding not_primary own_checks taken taken_in below if◌then◌else◌
+unfolding not_primary own_checks taken taken_in below if◌then◌otherwise◌
 own_given (T time price) h l = passed_over 8 _ _ (own_table _ _ _ _ refl (row_t _ l) (search (words, tables, outside_is)))
 own_given (Q time participant bid offer) h l = passed_over 8 _ _ (own_table _ _ _ _ refl (row_q _ l) (search tables))
 own_given (O time participant price) h l = row 8 _ _ _ _ (search words) (λ _. own_table _ _ _ _ refl (row_in 2 Waiting refl _ l) (search (words, tables)))

@@ -7,7 +7,7 @@ use mathlib.Core.Path.{◌≡◌, refl, sym, ap, ◌∙◌, ap₂}
 use native.Mathlib.Omega.{arith}
 use lib.ListN.{length, get_or}
 use lib.Seq.{ext_get_or}
-use Rattle.forms.specs.Choice.{if◌then◌else◌, any_of}
+use Rattle.forms.specs.Choice.{if◌then◌otherwise◌, any_of}
 use Rattle.forms.specs.Words.{◌or◌, ◌and◌, Gives}
 use Rattle.forms.proofs.Decides.{is_true, is_false, one_number, first_or_rest}
 use Rattle.band.specs.declared.Mean.{Mean}
@@ -130,7 +130,7 @@ module _ (h : Whole) (e : Event Message Notice) (bids : length h.stock.quotes.bi
 -- Limit entered now shows what Trading would
 best_same : (s s' : Stock) → state_of s ≡ Limit → state_of s' ≡ Trading → s.course.entry ≡ clock_of s' → s.reference ≡ s'.reference → s.setup ≡ s'.setup
     → s.end ≡ s'.end → s.quotes ≡ s'.quotes → best_of s ≡ best_of s'
-unfolding best_of bands_in in_force k_time any_of if◌then◌else◌
+unfolding best_of bands_in in_force k_time any_of if◌then◌otherwise◌
 best_same s s' l t c r u e q = rw (l, t, c, r, u, e, q)
 
 -- no bands are in force
@@ -206,10 +206,10 @@ changes_only h e v bids offers h' w q r g k =
     let s'' = h''.stock in
     let k'' = kept h e v in
     let g'' = states h e v in
-    let same-reference = one_reference h e s s'' r (reference h e v) in
-    let same-quotes = one_quotes h e bids offers s s'' q (last.quotes h e v) in
-    let to = entered h e s s'' same-reference same-quotes g g'' k k'' in
-    let from = entered h e s'' s (sym same-reference) (sym same-quotes) g'' g k'' k in
+    let same_reference = one_reference h e s s'' r (reference h e v) in
+    let same_quotes = one_quotes h e bids offers s s'' q (last.quotes h e v) in
+    let to = entered h e s s'' same_reference same_quotes g g'' k k'' in
+    let from = entered h e s'' s (sym same_reference) (sym same_quotes) g'' g k'' k in
     let entry : IsNew (Enters h e s'') s.course.entry (dated machine e) h.stock.course.entry =
     ⊎_map (λ a. (to a.0, a.1)) (λ a. ((λ x. a.0 (from x)), a.1)) k.1.1.1.0 in
     let course = course_of s.course
@@ -218,4 +218,4 @@ changes_only h e v bids offers h' w q r g k =
     (one_new k.1.1.1.1.1 k''.1.1.1.1.1)
     (one_new entry k''.1.1.1.0)
     (one_new k.1.1.1.1.0 k''.1.1.1.1.0) in
-    whole_of h' (stock_of_lem s (k.1.0 ∙ sym k''.1.0) (k.1.1.0 ∙ sym k''.1.1.0) course same-reference same-quotes) (one_new w (window.trades h e v))
+    whole_of h' (stock_of_lem s (k.1.0 ∙ sym k''.1.0) (k.1.1.0 ∙ sym k''.1.1.0) course same_reference same_quotes) (one_new w (window.trades h e v))

@@ -25,7 +25,7 @@ use Rattle.rules.specs.declared.Setup.{Setup}
 use Rattle.rules.specs.declared.Moment.{Moment}
 use Rattle.rules.specs.declared.Notice.{Notice}
 use Rattle.rules.specs.declared.Message.{Message}
-use Rattle.rules.proofs.After.{After, closes, pauses as to-pause, enters, trades, stays, state_after_lem, quiet}
+use Rattle.rules.proofs.After.{After, closes, pauses as to_pause, enters, trades, stays, state_after_lem, quiet}
 use Rattle.rules.proofs.Changed.{kept}
 use Rattle.rules.proofs.Earliest.{IsMoment, moment_of, Rows, First, head, tail, first_row, none_before}
 use Rattle.rules.proofs.Events.{rest_lawful, event_clock, event_forward, event_end}
@@ -126,7 +126,7 @@ module _ (h : Whole) (n : Notice) (v : CanHappen h (moment n)) where
 
       go : After h (moment n) → n.mark ≡ mark_x
       go (closes k q) = absurd (no_pause (fire h) 5 q (λ z. omega arith) (λ z. omega arith) b)
-      go (to-pause k q) = which k
+      go (to_pause k q) = which k
       go (enters k x q) = absurd (no_pause (fire h) 2 q (λ z. omega arith) (λ z. omega arith) b)
       go (trades k x y q) = absurd (no_pause (fire h) 1 q (λ z. omega arith) (λ z. omega arith) b)
       go (stays d k x y q) = absurd (c (⊎_map (λ p. sym q ∙ p) (λ p. sym q ∙ p) b))
@@ -155,7 +155,7 @@ module _ (h : Whole) (n : Notice) (v : CanHappen h (moment n)) where
     where
       go : After h (moment n) → InPause (fire h)
       go (closes k q) = absurd (not_among (letter_x ∷ mark_z ∷ mark_c ∷ []) _ mark_x x refl k)
-      go (to-pause k q) = q
+      go (to_pause k q) = q
       go (enters k _ q) = absurd (k (inr (inl x)))
       go (trades k _ _ q) = absurd (k (inr (inl x)))
       go (stays _ k _ _ q) = absurd (k (inr (inl x)))

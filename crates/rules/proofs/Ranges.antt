@@ -6,7 +6,7 @@ use mathlib.Core.List.{List, [], ◌∷◌, foldl}
 use mathlib.Core.Logic.{◌⊎◌, inl, inr}
 use mathlib.Core.Path.{refl}
 use lib.Dec.{ltb}
-use Rattle.forms.specs.Choice.{if◌then◌else◌}
+use Rattle.forms.specs.Choice.{if◌then◌otherwise◌}
 use Rattle.forms.specs.Words.{◌or◌, Some}
 use Rattle.forms.proofs.Decides.{Decides, words, Stable, stable, reworded, never, always, or_some, some}
 use Rattle.band.specs.declared.Mean.{Mean}
@@ -100,7 +100,7 @@ trade_is clock ahead t = search (words, price_is) depth 20
 -- where one was bad before them, or one of them is
 trades_from : (clock ahead : ℕ) (b : Bool) (A : Type 0) (w : List Trade) → Decides b A
     → Decides (foldl (see clock) (record { bad = b; last = ahead }) w).bad (A or BadTrade clock ahead w)
-unfolding see if◌then◌else◌
+unfolding see if◌then◌otherwise◌
 trades_from clock ahead b A [] d = reworded (inl, out) d
   where
     out : A ⊎ ⊥ → A

@@ -4,7 +4,7 @@ use Prim.Native.Nat.{ℕ}
 use mathlib.Core.List.{[], ◌∷◌, map}
 use mathlib.Core.Path.{refl, subst}
 use native.Mathlib.Omega.{arith}
-use Rattle.forms.specs.Choice.{if◌then◌else◌, all_of, any_of}
+use Rattle.forms.specs.Choice.{if◌then◌otherwise◌, all_of, any_of}
 use Rattle.forms.specs.Checks.{first}
 use Rattle.rules.specs.Numbers.{not_price, bad_end, bad_setup, bad_shape, or_bad_setup, setup_checks, sets_up}
 use Rattle.rules.specs.Book.{Accepted}
@@ -14,7 +14,7 @@ use Rattle.rules.specs.Demands.{PausesApart, NoFarther}
 use Rattle.rules.proofs.Examples.{pauses_counted}
 
 accepted : Accepted 23_400_000 (listed 2 ∷ [])
-unfolding if◌then◌else◌ all_of any_of first bad_shape bad_end not_price bad_setup or_bad_setup setup_checks sets_up
+unfolding if◌then◌otherwise◌ all_of any_of first bad_shape bad_end not_price bad_setup or_bad_setup setup_checks sets_up
 accepted = refl
 
 of_the_day : (d : ℕ) → PausesApart d → Apart d (pauses_of soonest_again)

@@ -53,7 +53,7 @@ module _ (Bad Outside Unsettled : Type 0) (time clock participant primary state 
 
   by_itself : (n : ℕ) (Own : Type 0) → has (1 ∷ 4 ∷ 5 ∷ 6 ∷ 8 ∷ 7 ∷ 9 ∷ []) n ≡ false → has (0 ∷ []) n ≡ false → there < Closed
       → Gives (until (9 for (¬ (state ≡ there)) ∷ n for Own ∷ [])) n ↔ (Reaches and state ≡ there and Own)
-  by_itself n Own above zero before-closed =
+  by_itself n Own above zero before_closed =
       let table : List Number = 9 for (¬ (state ≡ there)) ∷ [] in
       let e = once (until table) n Own [] above zero in (
         (λ g. let k = (passed table).0 (e.0 g).0 in (k.0, ((eq_stable _ _).undenied k.1.1.0, (e.0 g).1))),

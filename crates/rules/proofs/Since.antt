@@ -56,6 +56,7 @@ of_fields r p s h = rw (← p, ← s, ← h)
 
 -- the price of a reference that was started is one
 priced : (h : Whole) (es : Story) (price : Mean) (start : ℕ) → Lawful machine h es → StartedBy price start h es → 1 ≤ price.count
+priced h [] price start v k = elim k [ ]
 priced h (e ∷ es) price start v (inl k) = (started_price h e price (first_lawful h e es v) k.1).0
 priced h (e ∷ es) price start v (inr k) = priced (becomes machine h e) es price start (rest_lawful h e es v) k
 
@@ -69,6 +70,7 @@ none_waiting h (e ∷ es) v w =
 
 -- and then none is there
 started_once : (h : Whole) (es : Story) (price : Mean) (start : ℕ) → NoneStarted h es → ¬ StartedBy price start h es
+started_once h [] price start n k = elim k [ ]
 started_once h (e ∷ es) price start n (inl k) = n.0 (price, k.1)
 started_once h (e ∷ es) price start n (inr k) = started_once (becomes machine h e) es price start n.1 k
 

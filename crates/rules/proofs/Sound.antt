@@ -166,6 +166,7 @@ Each A m [] = Unit {0}
 Each A m (c ∷ cs) = (m.mark ≡ c.mark → c.comes → A) × Each A m cs
 
 pub by_mark : (A : Type 0) (m : Moment) (cs : List Coming) → IsFirst m cs → Each A m cs → A
+by_mark A m [] f k = elim f [ ]
 by_mark A m (c ∷ cs) (inl f) k = k.0 f.1.0 f.0
 by_mark A m (c ∷ cs) (inr f) k = by_mark A m cs f.1 k.1
 
@@ -176,7 +177,9 @@ started_price h (message (T time price)) r v (inr k) = mean_priced _ r _ (window
 started_price h (message (Q time participant bid offer)) r v (l, inl k) = mean_priced _ r _ (window_sane h (message (Q time participant bid offer)) v) k
 started_price h (message (Q time participant bid offer)) r v (l, inr k) = let s = l.0 in rw k.1 (own_price h (sound h (message (Q time participant bid offer)) v) (omega arith))
 started_price h (message (O time participant price)) r v q = alone_priced price r (opening_price price (taken_words (O time participant price) h v.0).in_range) q
+started_price h (message (P _ _)) r v q = elim q [ ]
 started_price h (message (R time participant price)) r v q = alone_priced price r (opening_price price (taken_words (R time participant price) h v.0).in_range) q
+started_price h (message (X _ _ _)) r v q = elim q [ ]
 started_price h (moment n) r v (inl (m, q)) = rw q (own_price h (sound h (moment n) v) (by_mark _ (its_moment n) (moments h) (moments_are h n v) (omega arith)))
 started_price h (moment n) r v (inr (inl k)) = mean_priced _ r _ (window_sane h (moment n) v) k.1.1.1.0
 started_price h (moment n) r v (inr (inr (inl k))) = mean_priced _ r _ (window_sane h (moment n) v) k.1
@@ -204,6 +207,7 @@ pauses_live h (message (R time participant price)) v k = absurd (not_among (lett
 pauses_live h (message (X time participant price)) v k = absurd (not_among (letter_p ∷ mark_x ∷ []) _ letter_x refl refl k)
 pauses_live h (moment n) v (inl q) = by_mark _ (its_moment n) (moments h) (moments_are h n v) (omega arith)
 pauses_live h (moment n) v (inr (inl q)) = by_mark _ (its_moment n) (moments h) (moments_are h n v) (omega arith)
+pauses_live h (moment n) v (inr (inr k)) = elim k [ ]
 
 -- without a new reference a state from 1 to 4 comes from one of them
 pub state_sane : (h : Whole) (e : Event Message Notice) → CanHappen h e → state_of h.stock ≤ Closed

@@ -238,6 +238,7 @@ module _ (h : Whole) (e : Event Message Notice) (v : CanHappen h e) where
       not_past (inr (inr (inr (inr (inr (inr (inl (a, l)))))))) = omega (arith, clock, for_v a.1)
       not_past (inr (inr (inr (inr (inr (inr (inr (inl (a, l))))))))) = omega (arith, clock, for_f a.0 a.1)
       not_past (inr (inr (inr (inr (inr (inr (inr (inr (inl (a, l)))))))))) = omega (arith, clock, for_h a.0 a.1.0 a.1.1)
+      not_past (inr (inr (inr (inr (inr (inr (inr (inr (inr x))))))))) = elim x [ ]
 
 -- ------------------------------------------------------------------ so it is after every story
 

@@ -1,17 +1,16 @@
 -- What an event makes of the day totals: the rule does what the words say.
 -- Assumes nothing.
-use Prim.Native.Nat.{ℕ, zero, suc, ◌+◌, ◌-◌, ◌≤◌, ◌<◌}
+use Prim.Native.Nat.{ℕ, ◌+◌, ◌-◌, ◌<◌}
 use mathlib.Core.Bool.{Bool, true, false, not}
-use mathlib.Core.List.{List, [], ◌∷◌}
+use mathlib.Core.List.{[], ◌∷◌}
 use mathlib.Core.Logic.{◌⊎◌, inl, inr, ⊎_elim, ◌↔◌}
 use mathlib.Core.Path.{◌≡◌, refl, sym, ap, ◌∙◌, subst}
 use native.Mathlib.Omega.{arith}
 use lib.Dec.{ltb, eqb}
-use lib.ListN.{length}
-use Rattle.forms.specs.Choice.{if◌then◌else◌, all_of, any_of}
+use Rattle.forms.specs.Choice.{if◌then◌otherwise◌, all_of, any_of}
 use Rattle.forms.specs.Words.{◌or◌, ◌and◌}
-use Rattle.forms.proofs.Choice.{if_true, if_false}
-use Rattle.forms.proofs.Decides.{Decides, words, is_true, is_false, either_way, by_eq, by_lt, reworded, and_more, all_one, has, not_among, past}
+use Rattle.forms.proofs.Choice.{if_false}
+use Rattle.forms.proofs.Decides.{Decides, words, is_true, is_false, either_way, by_eq, by_lt, reworded, and_more, all_one, has, not_among}
 use Rattle.rules.specs.Stock.{Whole, Waiting, Trading, Limit, Paused, Late, Closed, state_of, clock_of, with_quotes, figures_of}
 use Rattle.rules.specs.Quotes.{in_force, k_time, bands_in, best_of, flagged}
 use Rattle.rules.specs.Moments.{mark_z, mark_x, mark_p, mark_c, mark_f}
@@ -21,8 +20,8 @@ use Rattle.rules.specs.Totals.{longer, spend, one_more, begins_limit, in_pause, 
 use Rattle.rules.specs.Counted as counted
 use Rattle.rules.specs.Counted.{Counted}
 use Rattle.rules.specs.Book.{machine, counting}
-use Rattle.rules.specs.Words.{IsPrice, AtBand, its_moment}
-use Rattle.rules.specs.Changes.{date_of, IsNew, Starts, StartsOne, LeavesLimit, quotes_with, ReferenceAfter, Closes, StartsPause, Looks, Enters}
+use Rattle.rules.specs.Words.{IsPrice, its_moment}
+use Rattle.rules.specs.Changes.{date_of, IsNew, StartsOne, LeavesLimit, quotes_with, ReferenceAfter, Closes, StartsPause, Looks, Enters}
 use Rattle.rules.specs.TotalsWords.{CountAfter, NoTrade, HighestAfter, LowestAfter, SpentAfter}
 use Rattle.rules.specs.Demands.{CanHappen, TotalsAre}
 use Rattle.rules.specs.declared.Stock.{Stock}
@@ -41,8 +40,8 @@ use Rattle.rules.proofs.Ranges.{in_price}
 -- ------------------------------------------------------------------ a choice, in words
 
 -- what a test chooses
-new_by : {A : Type 0} (b : Bool) (Words : Type 0) (x y : A) → Decides b Words → IsNew Words (if b then x else y) x y
-unfolding if◌then◌else◌
+new_by : {A : Type 0} (b : Bool) (Words : Type 0) (x y : A) → Decides b Words → IsNew Words (if b then x otherwise y) x y
+unfolding if◌then◌otherwise◌
 new_by true Words x y d = inl (d.holds refl, refl)
 new_by false Words x y d = inr (d.fails refl, refl)
 
@@ -113,7 +112,7 @@ pause_is h e v = reworded (paused_by h e v) (search words depth 20)
 -- in Limit with the same entry and the same reference, the best quotes are the same
 best_alike : (s s' : Stock) → state_of s ≡ Limit → state_of s' ≡ Limit → s'.course.entry ≡ s.course.entry → s'.reference.price.sum ≡ s.reference.price.sum
     → s'.reference.price.count ≡ s.reference.price.count → s'.setup ≡ s.setup → s'.end ≡ s.end → s'.quotes ≡ s.quotes → best_of s' ≡ best_of s
-unfolding best_of bands_in in_force k_time any_of if◌then◌else◌
+unfolding best_of bands_in in_force k_time any_of if◌then◌otherwise◌
 best_alike s s' l l' c a n u e q = rw (l, l', c, a, n, u, e, q)
 
 -- the quotes that a Q sets
@@ -276,7 +275,7 @@ unfolding highest_with
 highest_kept n = if_false _ 0 n (is_false _ (by_lt n 0) (λ l. omega arith))
 
 lowest_kept : (n : ℕ) → lowest_with 0 n ≡ n
-unfolding lowest_with all_of if◌then◌else◌
+unfolding lowest_with all_of if◌then◌otherwise◌
 lowest_kept n = refl
 
 module _ (h : Whole) where

@@ -2,12 +2,12 @@
 -- Assumes nothing.
 use Prim.Native.Nat.{ℕ, zero, suc, ◌+◌, ◌-◌, ◌≤◌, ◌<◌}
 use mathlib.Core.Bool.{Bool, true, false}
-use mathlib.Core.List.{List, [], ◌∷◌, ◌++◌}
+use mathlib.Core.List.{List, [], ◌∷◌}
 use mathlib.Core.Logic.{◌⊎◌, inl, inr, ⊎_elim, ⊎_map}
 use mathlib.Core.Path.{◌≡◌, refl, sym, ap, ◌∙◌, subst}
 use native.Mathlib.Omega.{arith}
 use lib.Dec.{ltb, eqb}
-use Rattle.forms.specs.Choice.{if◌then◌else◌}
+use Rattle.forms.specs.Choice.{if◌then◌otherwise◌}
 use Rattle.forms.specs.Words.{◌or◌, ◌and◌, IsOneOf}
 use Rattle.forms.proofs.Choice.{if_true, if_false}
 use Rattle.forms.proofs.Decides.{is_true, is_false, either_way, by_eq, by_lt}
@@ -20,8 +20,8 @@ use Rattle.rules.specs.Counted.{Counted}
 use Rattle.rules.specs.Book.{machine, counting, Story}
 use Rattle.rules.specs.Words.{IsPrice, IsSide}
 use Rattle.rules.specs.Changes.{date_of, IsNew, StartsPause, Enters}
-use Rattle.rules.specs.TotalsWords.{SpentAfter, CountAfter, Trades, NoTrade, HighestAfter, LowestAfter, TotalsAfter, Wrong}
-use Rattle.rules.specs.Readings.{last_date, up_to, state_at, how_many, milliseconds_in, Counts, KeptCount, trade_price, trade_prices, IsHighest, IsLowest}
+use Rattle.rules.specs.TotalsWords.{CountAfter, Trades, NoTrade, TotalsAfter, Wrong}
+use Rattle.rules.specs.Readings.{last_date, up_to, state_at, how_many, milliseconds_in, Counts, KeptCount, trade_prices, IsHighest, IsLowest}
 use Rattle.rules.specs.Pauses.{EntersLimit}
 use Rattle.rules.specs.Demands.{CanHappen, Allowed, leaves, keeps, TimesAre, TimesAddUp, CountsAre, OneCount, PricesAre, NeverWrong}
 use Rattle.rules.specs.declared.Setup.{Setup}
@@ -31,7 +31,6 @@ use Rattle.rules.specs.declared.Notice.{Notice}
 use Rattle.rules.specs.declared.Message.{Message}
 use Rattle.rules.specs.declared.Message.TheVariants.{Trade as T, Quote as Q, Opening as O, Pause as P, Reopening as R, Closing as X}
 use Rattle.rules.proofs.Events.{first_lawful, rest_lawful, event_clock, event_forward}
-use Rattle.rules.proofs.Changed.{kept}
 use Rattle.rules.proofs.Counted.{left_without}
 use Rattle.rules.proofs.TotalsAfter.{totals_after, limit_is, pause_is, price_taken, state_low, is_trade, no_trade_lem}
 
@@ -79,8 +78,8 @@ last_after h (e ∷ es) v =
 
 -- ------------------------------------------------------------------ how many numbers are such
 
-many_const : (p : ℕ → Bool) (b : Bool) (n : ℕ) → ((i : ℕ) → i < n → p i ≡ b) → how_many p n ≡ (if b then n else 0)
-unfolding how_many if◌then◌else◌
+many_const : (p : ℕ → Bool) (b : Bool) (n : ℕ) → ((i : ℕ) → i < n → p i ≡ b) → how_many p n ≡ (if b then n otherwise 0)
+unfolding how_many if◌then◌otherwise◌
 many_const p true zero e = refl
 many_const p false zero e = refl
 many_const p true (suc n) e = rw (e n (omega arith)) (omega (arith, many_const p true n (λ i l. e i (omega arith))))
@@ -134,11 +133,11 @@ module _ (state : ℕ) (its : StateTimes → ℕ) (after : (c : Counted) (e : Ev
         ∙ ap (λ es. eqb (state_of (left machine h es).stock) state)
         (if_false (ltb t date) [] (e ∷ up_to t es) (is_false _ (by_lt t date) (λ l. omega (arith, event_clock h e es v))))
 
-    spent_by : its (becomes counting c e).totals.spent ≡ its c.totals.spent + (if eqb (state_of h.stock) state then date - clock else 0)
+    spent_by : its (becomes counting c e).totals.spent ≡ its c.totals.spent + (if eqb (state_of h.stock) state then date - clock otherwise 0)
     spent_by = go (after c e (first_lawful h e es v))
       where
         go : IsNew (state_of h.stock ≡ state) (its (becomes counting c e).totals.spent) (its c.totals.spent + (date_of e - clock)) (its c.totals.spent)
-            → its (becomes counting c e).totals.spent ≡ its c.totals.spent + (if eqb (state_of h.stock) state then date - clock else 0)
+            → its (becomes counting c e).totals.spent ≡ its c.totals.spent + (if eqb (state_of h.stock) state then date - clock otherwise 0)
         go (inl k) = rw (if_true (eqb (state_of h.stock) state) (date - clock) 0 (is_true _ (by_eq _ _) k.0), ← same_date e) k.1
         go (inr k) = rw (if_false (eqb (state_of h.stock) state) (date - clock) 0 (is_false _ (by_eq _ _) k.0)) (omega (arith, k.1))
 
@@ -202,7 +201,7 @@ times end u es a =
 
 -- what a new time adds, where it is one
 abbrev adds : (state k more : ℕ) → ℕ
-adds state k more = if eqb state k then more else 0
+adds state k more = if eqb state k then more otherwise 0
 
 added : (state k more n n' : ℕ) → IsNew (state ≡ k) n' (n + more) n → n' ≡ n + adds state k more
 added state k more n n' (inl x) = rw (if_true (eqb state k) more 0 (is_true _ (by_eq state k) x.0)) x.1
@@ -211,7 +210,7 @@ added state k more n n' (inr x) = rw (if_false (eqb state k) more 0 (is_false _ 
 -- one of the six states is added to
 added_once : (state more : ℕ) → state < 6
     → adds state Waiting more + adds state Trading more + adds state Limit more + adds state Paused more + adds state Late more + adds state Closed more ≡ more
-unfolding if◌then◌else◌
+unfolding if◌then◌otherwise◌
 added_once zero more l = omega arith
 added_once (suc zero) more l = omega arith
 added_once (suc (suc zero)) more l = omega arith
@@ -326,13 +325,13 @@ counts end u es a =
 -- every T of a story has a price in range
 prices_in_range : (h : Whole) (es : Story) → Lawful machine h es → Every IsPrice (trade_prices es)
 prices_in_range h [] v = tt
-prices_in_range h (message (T time price) ∷ es) v = (price_taken time price h (v.0, tt), prices_in_range _ es v.1)
-prices_in_range h (message (Q time participant bid offer) ∷ es) v = prices_in_range _ es v.1
-prices_in_range h (message (O time participant price) ∷ es) v = prices_in_range _ es v.1
-prices_in_range h (message (P time participant) ∷ es) v = prices_in_range _ es v.1
-prices_in_range h (message (R time participant price) ∷ es) v = prices_in_range _ es v.1
-prices_in_range h (message (X time participant price) ∷ es) v = prices_in_range _ es v.1
-prices_in_range h (moment n ∷ es) v = prices_in_range _ es v.2
+prices_in_range h (message (T time price) ∷ es) v = (price_taken time price h (v.0, tt), prices_in_range (becomes machine h (message (T time price))) es v.1)
+prices_in_range h (message (Q time participant bid offer) ∷ es) v = prices_in_range (becomes machine h (message (Q time participant bid offer))) es v.1
+prices_in_range h (message (O time participant price) ∷ es) v = prices_in_range (becomes machine h (message (O time participant price))) es v.1
+prices_in_range h (message (P time participant) ∷ es) v = prices_in_range (becomes machine h (message (P time participant))) es v.1
+prices_in_range h (message (R time participant price) ∷ es) v = prices_in_range (becomes machine h (message (R time participant price))) es v.1
+prices_in_range h (message (X time participant price) ∷ es) v = prices_in_range (becomes machine h (message (X time participant price))) es v.1
+prices_in_range h (moment n ∷ es) v = prices_in_range (becomes machine h (moment n)) es v.2
 
 -- k is the highest of n and the prices
 abbrev High : ℕ → List ℕ → ℕ → Type 0

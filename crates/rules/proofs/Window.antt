@@ -10,7 +10,7 @@ use native.Mathlib.Omega.{arith}
 use borrow.Author.Tests.{eq-eqb, ne_eqb, ltb-true, lt-ltb}
 use lib.Dec.{ltb}
 use lib.ListN.{length}
-use Rattle.forms.specs.Choice.{if◌then◌else◌}
+use Rattle.forms.specs.Choice.{if◌then◌otherwise◌}
 use Rattle.forms.proofs.Choice.{if_true, if_false, if_arms}
 use Rattle.forms.proofs.Decides.{either_way, by_eq}
 use Rattle.rules.specs.Stock.{Trade, Whole, clock_of, staying}
@@ -75,12 +75,12 @@ module _ (time clock : ℕ) where
 
   -- of trades in order those that have left are the first ones
   pub staying_recent : (last : ℕ) (l : List Trade) → InOrder last clock l → staying time l ≡ recent time l
-  unfolding staying recent if◌then◌else◌
+  unfolding staying recent if◌then◌otherwise◌
   staying_recent last [] o = refl
   staying_recent last (a ∷ l) o = go (staying_recent a.at l o.3) (ltb time (a.at + 300_000)) refl
     where
       go : staying time l ≡ recent time l → (b : Bool) → ltb time (a.at + 300_000) ≡ b
-          → (if b then a ∷ l else staying time l) ≡ (if b then a ∷ recent time l else recent time l)
+          → (if b then a ∷ l otherwise staying time l) ≡ (if b then a ∷ recent time l otherwise recent time l)
       go ih true e = ap (λ z. a ∷ z) (sym (recent_all a.at l o.3 (ltb-true time (a.at + 300_000) e)))
       go ih false e = ih
 
@@ -97,7 +97,7 @@ recent_in_order time u c (t ∷ w) o =
 -- ------------------------------------------------------------------ the window after an event
 
 moment_trades : (m : Moment) (clock : ℕ) (w : List Trade) → InOrder 0 clock w
-    → IsNew (m.mark ≡ mark_v) (window_after m w) (recent m.time w) (if closing_mark m.mark then [] else w)
+    → IsNew (m.mark ≡ mark_v) (window_after m w) (recent m.time w) (if closing_mark m.mark then [] otherwise w)
 unfolding window_after
 moment_trades m clock w o = ⊎_map
     (λ e. (e, if_true _ _ _ (eq-eqb m.mark mark_v e) ∙ staying_recent m.time clock 0 w o))

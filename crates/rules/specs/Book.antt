@@ -1,7 +1,7 @@
 -- The stock of the rules as a machine, alone and with its day totals, and the book that a setup starts (document 01, "What the book holds").
 -- Assumes nothing.
 use Rattle.std.specs.Prelude.{ℕ, ◌*◌, List, [], map, ◌≡◌, eqb, length}
-use Rattle.forms.specs.Choice.{if◌then◌else◌}
+use Rattle.forms.specs.Choice.{if◌then◌otherwise◌}
 use Rattle.forms.specs.Checks.{first}
 use Rattle.rules.specs.Stock.{Whole, clock_of}
 use Rattle.rules.specs.Moments.{next_of, fire}
@@ -98,28 +98,28 @@ module _ (end : ℕ) where
   unfoldable pub book_tells : List Counted → (times prices i : ℕ) → Message → Answer
   book_tells b times prices i m =
       let number = first (call_checks (length b) times prices i) in
-      if eqb number 0 then tell_answer m (stock counting blank b i) else zeros number
+      if eqb number 0 then tell_answer m (stock counting blank b i) otherwise zeros number
 
   -- the answer to settling the stock i: 1 or 3 with zeros and no moment by the first checks, else the answer of the stock
   unfoldable pub book_settles : List Counted → (times prices i : ℕ) → ℕ → Notice
   book_settles b times prices i time =
       let number = first (call_checks (length b) times prices i) in
-      if eqb number 0 then settle_answer time (stock counting blank b i) else no_notice number
+      if eqb number 0 then settle_answer time (stock counting blank b i) otherwise no_notice number
 
   -- the answer to reading the stock i: 1 or 3 with zeros by the first checks, else the answer of the stock
   unfoldable pub book_reads : List Counted → (times prices i : ℕ) → Answer
   book_reads b times prices i =
       let number = first (call_checks (length b) times prices i) in
-      if eqb number 0 then read_answer (stock counting blank b i) else zeros number
+      if eqb number 0 then read_answer (stock counting blank b i) otherwise zeros number
 
   -- the answer to asking what comes next of the stock i: 1 or 3 with no moment by the first checks, else the answer of the stock
   unfoldable pub book_next : List Counted → (times prices i : ℕ) → Upcoming
   book_next b times prices i =
       let number = first (call_checks (length b) times prices i) in
-      if eqb number 0 then next_answer (stock counting blank b i) else none_coming number
+      if eqb number 0 then next_answer (stock counting blank b i) otherwise none_coming number
 
   -- the answer to asking for the day totals of the stock i: 1 or 3 with every total 0 by the first checks, else the answer of the stock
   unfoldable pub book_totals : List Counted → (times prices i : ℕ) → Summary
   book_totals b times prices i =
       let number = first (call_checks (length b) times prices i) in
-      if eqb number 0 then totals_answer (stock counting blank b i) else no_summary number
+      if eqb number 0 then totals_answer (stock counting blank b i) otherwise no_summary number

@@ -5,7 +5,7 @@
 -- together they determine the stock; `resumes` says how a pause ends. Words.antt says how to read it.
 -- Assumes nothing.
 use Rattle.std.specs.Prelude.{ℕ, ◌+◌, ◌-◌, ◌≤◌, Bool, List, [], ◌∷◌, ◌++◌, ◌≡◌, ltb, eqb, length, get_or, set}
-use Rattle.forms.specs.Choice.{if◌then◌else◌, any_of}
+use Rattle.forms.specs.Choice.{if◌then◌otherwise◌, any_of}
 use Rattle.forms.specs.Words.{◌or◌, ◌and◌, IsOneOf, Number, Otherwise}
 use Rattle.forms.specs.Words.Number.{◌for◌}
 use Rattle.band.specs.declared.Mean.{Mean}
@@ -55,12 +55,12 @@ joins w (message (O time participant price)) = record { at = time; price = price
 joins w (message (P time participant)) = w
 joins w (message (R time participant price)) = record { at = time; price = price } ∷ []
 joins w (message (X time participant price)) = []
-joins w (moment n) = if closing_mark n.mark then [] else w
+joins w (moment n) = if closing_mark n.mark then [] otherwise w
 
 -- the trades that have not left at `time`: each stays for 300,000
 unfoldable pub recent : ℕ → List Trade → List Trade
 recent time [] = []
-recent time (t ∷ ts) = if ltb time (t.at + 300_000) then t ∷ recent time ts else recent time ts
+recent time (t ∷ ts) = if ltb time (t.at + 300_000) then t ∷ recent time ts otherwise recent time ts
 
 -- the window after an event: v lets the trades leave whose time has come, and any other event does what `joins` says
 abbrev pub TradesAfter : Whole → Event Message Notice → List Trade → Type 0
@@ -71,12 +71,12 @@ TradesAfter h e w' = IsNew (letter_of e ≡ mark_v) w' (recent (date_of e) h.win
 -- the bid and offer of participant i after an event, where `last` are those before it: Q sets them, closing makes them 0
 abbrev pub quote_by : ℕ → ℕ × ℕ → Event Message Notice → ℕ × ℕ
 quote_by i last (message (T time price)) = last
-quote_by i last (message (Q time participant bid offer)) = if eqb participant i then (bid, offer) else last
+quote_by i last (message (Q time participant bid offer)) = if eqb participant i then (bid, offer) otherwise last
 quote_by i last (message (O time participant price)) = last
 quote_by i last (message (P time participant)) = last
 quote_by i last (message (R time participant price)) = last
 quote_by i last (message (X time participant price)) = (0, 0)
-quote_by i last (moment n) = if closing_mark n.mark then (0, 0) else last
+quote_by i last (moment n) = if closing_mark n.mark then (0, 0) otherwise last
 
 -- there are sixteen participants, and participant i has that bid and offer
 abbrev pub Quoted : ℕ → Quotes → ℕ × ℕ → Type 0

@@ -2,7 +2,7 @@
 -- totals, which decide everything but the totals: these only add 1 for wrong totals, and bring the totals up to date.
 -- Assumes nothing.
 use Rattle.std.specs.Prelude.{ℕ, Bool, eqb}
-use Rattle.forms.specs.Choice.{if◌then◌else◌}
+use Rattle.forms.specs.Choice.{if◌then◌otherwise◌}
 use Rattle.rules.specs.Stock.{Whole, clock_of}
 use Rattle.rules.specs.Moments as moments
 use Rattle.rules.specs.Moments.{no_moment, next_of}
@@ -38,7 +38,7 @@ wrong c = wrong_totals (clock_of c.whole.stock) c.totals
 
 -- 1 for wrong totals, else the stock's own number
 unfoldable pub or_wrong : Counted → ℕ → ℕ
-or_wrong c own = if wrong c then 1 else own
+or_wrong c own = if wrong c then 1 otherwise own
 
 -- the number that a message is answered with
 abbrev pub tells : Message → Counted → ℕ
@@ -72,11 +72,11 @@ fire c = with_event (moment (notice c)) c (moments.fire c.whole)
 
 -- the stock after a message: with what the message does where the number is 0, else as it was, with every total
 unfoldable pub after_telling : Message → Counted → Counted
-after_telling m c = if eqb (tells m c) 0 then after m c else c
+after_telling m c = if eqb (tells m c) 0 then after m c otherwise c
 
 -- the stock after settling: with its earliest moment done where the number is 0, else as it was, with every total
 unfoldable pub after_settling : ℕ → Counted → Counted
-after_settling time c = if eqb (settles time c) 0 then fire c else c
+after_settling time c = if eqb (settles time c) 0 then fire c otherwise c
 
 -- ------------------------------------------------------------------ the answers
 
@@ -86,7 +86,7 @@ tell_answer m c = answer (tells m c) (after_telling m c).whole.stock
 
 -- the answer to settling: the notice, or zeros for the mark and the time where no moment was done
 unfoldable pub settle_answer : ℕ → Counted → Notice
-settle_answer time c = if eqb (settles time c) 0 then notice c else beside no_moment (answer (settles time c) c.whole.stock)
+settle_answer time c = if eqb (settles time c) 0 then notice c otherwise beside no_moment (answer (settles time c) c.whole.stock)
 
 -- the answer to reading: the number, and what the stock shows
 unfoldable pub read_answer : Counted → Answer
@@ -94,7 +94,7 @@ read_answer c = answer (reads c) c.whole.stock
 
 -- the answer to asking what comes next: the number of reading, and where it is 0 the stock's earliest moment
 unfoldable pub next_answer : Counted → Upcoming
-next_answer c = if eqb (reads c) 0 then record { number = 0; mark = (next_of c.whole).mark; time = (next_of c.whole).time } else none_coming (reads c)
+next_answer c = if eqb (reads c) 0 then record { number = 0; mark = (next_of c.whole).mark; time = (next_of c.whole).time } otherwise none_coming (reads c)
 
 -- a number with every total 0
 abbrev pub no_summary : ℕ → Summary
@@ -102,4 +102,4 @@ no_summary number = record { number = number; totals = no_totals }
 
 -- the answer to asking for the day totals: the number of reading, and where it is 0 the totals
 unfoldable pub totals_answer : Counted → Summary
-totals_answer c = if eqb (reads c) 0 then record { number = 0; totals = c.totals } else no_summary (reads c)
+totals_answer c = if eqb (reads c) 0 then record { number = 0; totals = c.totals } otherwise no_summary (reads c)

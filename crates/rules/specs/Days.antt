@@ -1,11 +1,10 @@
 -- Days as they are printed (document 01, "The day program", "Easy slips"), document 01's own first.
 -- Assumes nothing.
 use Rattle.std.specs.Prelude.{ℕ, zero, suc, ◌+◌, Bool, true, false, List, [], ◌∷◌, ◌++◌, map, eqb}
-use Rattle.forms.specs.Choice.{if◌then◌else◌}
+use Rattle.forms.specs.Choice.{if◌then◌otherwise◌}
 use Rattle.rules.specs.Counted.{Counted}
 use Rattle.rules.specs.Moments.{mark_z, mark_w, mark_x, mark_p, mark_c, mark_v, mark_f, mark_h}
 use Rattle.rules.specs.Messages.{letter_t, letter_q, letter_o, letter_p, letter_r, letter_x, letter, time_of}
-use Rattle.rules.specs.Numbers.{answer}
 use Rattle.rules.specs.Machine.{Call, tell, settle, On, notices, step_in}
 use Rattle.rules.specs.Book.{counting, blank, book, now, story, book_tells, book_settles}
 use Rattle.rules.specs.Readings.{limit_pauses}
@@ -35,19 +34,19 @@ printed end b [] = []
 printed end b (tell m ∷ cs) = line (time_of m) (letter m) (book_tells end b 512 512 0 m) ∷ printed end (step_in counting (blank end) b (on_0 (tell m))) cs
 printed end b (settle time ∷ cs) =
     let n = book_settles end b 512 512 0 time in
-    (if eqb n.answer.number 0 then noticed n ∷ [] else []) ++ printed end (step_in counting (blank end) b (on_0 (settle time))) cs
+    (if eqb n.answer.number 0 then noticed n ∷ [] otherwise []) ++ printed end (step_in counting (blank end) b (on_0 (settle time))) cs
 
 unfoldable pub same_numbers : List ℕ → List ℕ → Bool
 same_numbers [] [] = true
 same_numbers [] (y ∷ ys) = false
 same_numbers (x ∷ xs) [] = false
-same_numbers (x ∷ xs) (y ∷ ys) = if eqb x y then same_numbers xs ys else false
+same_numbers (x ∷ xs) (y ∷ ys) = if eqb x y then same_numbers xs ys otherwise false
 
 unfoldable pub same_lines : List (List ℕ) → List (List ℕ) → Bool
 same_lines [] [] = true
 same_lines [] (y ∷ ys) = false
 same_lines (x ∷ xs) [] = false
-same_lines (x ∷ xs) (y ∷ ys) = if same_numbers x y then same_lines xs ys else false
+same_lines (x ∷ xs) (y ∷ ys) = if same_numbers x y then same_lines xs ys otherwise false
 
 pub record Day : Type 0 where
   pub end : ℕ

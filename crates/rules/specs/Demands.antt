@@ -60,7 +60,7 @@ use Rattle.rules.specs.TotalsWords.{TotalsAfter, NoTotals, Wrong}
 use Rattle.rules.specs.Readings.{joined, last_quote, NoneStarted, StartedBy, last_date, limit_pauses, count_of, MomentsOnly, waiting_time, trading_time, limit_time, paused_time, late_time, closed_time, Counts, KeptCount, trade_prices, IsHighest, IsLowest}
 use Rattle.rules.specs.Pauses.{before, PauseAt, EntersLimit, LimitSince, PausedSince}
 use Rattle.rules.specs.LimitPauses.{Apart, least_distance, pauses_bound}
-use Rattle.rules.specs.Examples.{right, by_hand_lem}
+use Rattle.rules.specs.Examples.{right, by_hand}
 use Rattle.rules.specs.Days.{as_printed, days, listed, the_day, a_late_pause, a_pause, a_straddle, the_exact_mean, the_looks, offer_straddle, soonest_again, limit_again, pauses_by, pauses_of, evenly, all_day, totals_of}
 use Rattle.rules.specs.Edges.{as_answered, edges}
 use Rattle.rules.specs.declared.Setup.{Setup}
@@ -115,19 +115,19 @@ SetupNumbersAre = (stocks times prices end : ℕ) (us : List Setup) (n : ℕ)
     → (sets_up stocks times prices end us ≡ n) ↔ Gives (setup_refusals stocks times prices end us) n
 
 -- The numbers of each message.
-abbrev pub numbers_of_lem : Message → List ℕ
-numbers_of_lem (T time price) = 0 ∷ 1 ∷ 3 ∷ 4 ∷ 5 ∷ 6 ∷ 7 ∷ 11 ∷ 12 ∷ 13 ∷ []
-numbers_of_lem (Q time participant bid offer) = 0 ∷ 1 ∷ 3 ∷ 4 ∷ 5 ∷ 6 ∷ 7 ∷ []
-numbers_of_lem (O time participant price) = 0 ∷ 1 ∷ 3 ∷ 4 ∷ 5 ∷ 6 ∷ 7 ∷ 8 ∷ 9 ∷ 15 ∷ []
-numbers_of_lem (P time participant) = 0 ∷ 1 ∷ 3 ∷ 4 ∷ 5 ∷ 6 ∷ 7 ∷ 8 ∷ 9 ∷ 16 ∷ []
-numbers_of_lem (R time participant price) = 0 ∷ 1 ∷ 3 ∷ 4 ∷ 5 ∷ 6 ∷ 7 ∷ 8 ∷ 9 ∷ 10 ∷ []
-numbers_of_lem (X time participant price) = 0 ∷ 1 ∷ 3 ∷ 4 ∷ 5 ∷ 6 ∷ 7 ∷ 8 ∷ 9 ∷ 10 ∷ []
+abbrev pub numbers_of : Message → List ℕ
+numbers_of (T time price) = 0 ∷ 1 ∷ 3 ∷ 4 ∷ 5 ∷ 6 ∷ 7 ∷ 11 ∷ 12 ∷ 13 ∷ []
+numbers_of (Q time participant bid offer) = 0 ∷ 1 ∷ 3 ∷ 4 ∷ 5 ∷ 6 ∷ 7 ∷ []
+numbers_of (O time participant price) = 0 ∷ 1 ∷ 3 ∷ 4 ∷ 5 ∷ 6 ∷ 7 ∷ 8 ∷ 9 ∷ 15 ∷ []
+numbers_of (P time participant) = 0 ∷ 1 ∷ 3 ∷ 4 ∷ 5 ∷ 6 ∷ 7 ∷ 8 ∷ 9 ∷ 16 ∷ []
+numbers_of (R time participant price) = 0 ∷ 1 ∷ 3 ∷ 4 ∷ 5 ∷ 6 ∷ 7 ∷ 8 ∷ 9 ∷ 10 ∷ []
+numbers_of (X time participant price) = 0 ∷ 1 ∷ 3 ∷ 4 ∷ 5 ∷ 6 ∷ 7 ∷ 8 ∷ 9 ∷ 10 ∷ []
 
 -- Every number that a call gives is one of the call's list.
 abbrev pub NumbersListed : Type 0
 NumbersListed =
     ((end : ℕ) (b : List Counted) (times prices i : ℕ)
-    → ((m : Message) → IsOneOf (book_tells end b times prices i m).number (numbers_of_lem m))
+    → ((m : Message) → IsOneOf (book_tells end b times prices i m).number (numbers_of m))
     × ((time : ℕ) → IsOneOf (book_settles end b times prices i time).answer.number (0 ∷ 1 ∷ 3 ∷ 4 ∷ 14 ∷ []))
     × IsOneOf (book_reads end b times prices i).number (0 ∷ 1 ∷ 3 ∷ [])
     × IsOneOf (book_totals end b times prices i).number (0 ∷ 1 ∷ 3 ∷ []))
@@ -587,7 +587,7 @@ NeverWrong = (end : ℕ) (u : Setup) (es : Story) → Allowed end u es → ¬ Wr
 
 -- B1 to B12 in one table.
 abbrev pub ByHand : Type 0
-ByHand = every right by_hand_lem ≡ true
+ByHand = every right by_hand ≡ true
 
 -- Days as they are printed, document 01's own first.
 abbrev pub AsPrinted : Type 0

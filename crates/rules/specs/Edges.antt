@@ -2,7 +2,7 @@
 -- "Numbers given back"; document 02, R-4).
 -- Assumes nothing.
 use Rattle.std.specs.Prelude.{ℕ, ◌-◌, Bool, not, List, [], ◌∷◌, eqb, length, set, replicate}
-use Rattle.forms.specs.Choice.{if◌then◌else◌}
+use Rattle.forms.specs.Choice.{if◌then◌otherwise◌}
 use Rattle.forms.specs.Checks.{first}
 use Rattle.band.specs.Band.{no_mean, price_of}
 use Rattle.rules.specs.Stock.{Waiting, Paused, Late, state_of, clock_of, Trade, Whole, Trading}
@@ -38,7 +38,7 @@ sound state clock early entry pause reference quotes w = record {
 
 -- a reference that is a price, or none where that is 0
 abbrev referring : ℕ → ℕ → ℕ → Reference
-referring price start hold = record { price = if eqb price 0 then no_mean else price_of price; start = start; hold = hold }
+referring price start hold = record { price = if eqb price 0 then no_mean otherwise price_of price; start = start; hold = hold }
 
 -- a reference that is a mean, started at 990,000, in its hold
 abbrev mean_of : (sum count : ℕ) → Reference
@@ -136,8 +136,8 @@ abbrev summary : Summary → List ℕ
 summary x = x.number ∷ total_numbers x.totals
 
 -- state, clock, early, entry, pause, the reference's sum, count, start and hold, and how many bids, offers and trades there are
-abbrev numbers_of_lem : Whole → List ℕ
-numbers_of_lem h =
+abbrev numbers_of : Whole → List ℕ
+numbers_of h =
     let c = h.stock.course in
     let r = h.stock.reference in
     let q = h.stock.quotes in
@@ -160,7 +160,7 @@ pub data Edge : Type 0 where
   -- a call that names a stock of a book of so many stocks, times and prices
   names : (stocks times prices at : ℕ) → ℕ → Edge
   -- a setup of so many stocks, times and prices, to an end
-  sets_up_lem : (stocks times prices end : ℕ) → List Setup → ℕ → Edge
+  set_up_row : (stocks times prices end : ℕ) → List Setup → ℕ → Edge
   -- numbers of a record, or an answer as a line with a time and a mark
   shown : List ℕ → List ℕ → Edge
 
@@ -170,7 +170,7 @@ as_answered (good h) = not (rubbish h)
 as_answered (told h m number) = eqb (tells m h) number
 as_answered (settles_to h time number) = eqb (settles time h) number
 as_answered (names stocks times prices at number) = eqb (first (call_checks stocks times prices at)) number
-as_answered (sets_up_lem stocks times prices end us number) = eqb (sets_up stocks times prices end us) number
+as_answered (set_up_row stocks times prices end us number) = eqb (sets_up stocks times prices end us) number
 as_answered (shown is should) = same_numbers is should
 
 unfoldable pub edges : List Edge
@@ -425,16 +425,16 @@ edges =
     names 64 32_768 32_768 63 0 ∷
     names 65 33_280 33_280 0 1 ∷
     -- setup: 1 and 2
-    sets_up_lem 0 0 0 3_600_000 [] 1 ∷
-    sets_up_lem 65 33_280 33_280 3_600_000 (replicate 65 (listed 1)) 1 ∷
-    sets_up_lem 64 32_768 32_768 3_600_000 (replicate 64 (listed 1)) 0 ∷
-    sets_up_lem 1 511 512 0 (listed 1 ∷ []) 1 ∷
-    sets_up_lem 1 512 513 0 (listed 1 ∷ []) 1 ∷
-    sets_up_lem 1 512 512 0 [] 1 ∷
-    sets_up_lem 1 512 512 3_600_000 (listed 1 ∷ listed 1 ∷ []) 1 ∷
-    sets_up_lem 1 513 512 3_600_000 (listed 1 ∷ []) 1 ∷
-    sets_up_lem 1 512 512 0 (listed 1 ∷ []) 2 ∷
-    sets_up_lem 2 1_024 1_024 3_600_000 (listed 1 ∷ listed 3 ∷ []) 2 ∷
+    set_up_row 0 0 0 3_600_000 [] 1 ∷
+    set_up_row 65 33_280 33_280 3_600_000 (replicate 65 (listed 1)) 1 ∷
+    set_up_row 64 32_768 32_768 3_600_000 (replicate 64 (listed 1)) 0 ∷
+    set_up_row 1 511 512 0 (listed 1 ∷ []) 1 ∷
+    set_up_row 1 512 513 0 (listed 1 ∷ []) 1 ∷
+    set_up_row 1 512 512 0 [] 1 ∷
+    set_up_row 1 512 512 3_600_000 (listed 1 ∷ listed 1 ∷ []) 1 ∷
+    set_up_row 1 513 512 3_600_000 (listed 1 ∷ []) 1 ∷
+    set_up_row 1 512 512 0 (listed 1 ∷ []) 2 ∷
+    set_up_row 2 1_024 1_024 3_600_000 (listed 1 ∷ listed 3 ∷ []) 2 ∷
     -- the first five minutes: no reference before 300,000, an opening until then; one trade is enough for f
     shown (state_of (after_settling 300_000 (sound 0 100_000 1 0 0 (referring 0 0 0) no_quotes (trade 100_000 1 ∷ []))).stock ∷ []) (Trading ∷ []) ∷
     shown (state_of (after_telling (T 299_999 1) new_stock).stock ∷ []) (Waiting ∷ []) ∷
@@ -448,9 +448,9 @@ edges =
     -- a state over 5 refuses as Closed does
     shown (taken 0 6 ∷ []) (7 ∷ []) ∷
     -- a stock as setup starts it
-    shown (numbers_of_lem new_stock) (0 ∷ 0 ∷ 1 ∷ 0 ∷ 0 ∷ 0 ∷ 0 ∷ 0 ∷ 0 ∷ 16 ∷ 16 ∷ 0 ∷ []) ∷
+    shown (numbers_of new_stock) (0 ∷ 0 ∷ 1 ∷ 0 ∷ 0 ∷ 0 ∷ 0 ∷ 0 ∷ 0 ∷ 16 ∷ 16 ∷ 0 ∷ []) ∷
     -- the stock after its opening: a start, a new hold, the price alone in the window
-    shown (numbers_of_lem (after_telling (O 1_000 2 100_000) new_stock)) (1 ∷ 1_000 ∷ 1 ∷ 0 ∷ 0 ∷ 100_000 ∷ 1 ∷ 1_000 ∷ 1 ∷ 16 ∷ 16 ∷ 1 ∷ []) ∷
+    shown (numbers_of (after_telling (O 1_000 2 100_000) new_stock)) (1 ∷ 1_000 ∷ 1 ∷ 0 ∷ 0 ∷ 100_000 ∷ 1 ∷ 1_000 ∷ 1 ∷ 16 ∷ 16 ∷ 1 ∷ []) ∷
     -- zeros after 1, 2 and 3, and beside a setup that is done; no mark and no time where settling did nothing
     shown (line 0 0 (tell_answer (T 1_000_000 1) (trading_with (referring 0 990_000 1) []))) (0 ∷ 0 ∷ 1 ∷ 0 ∷ 0 ∷ 0 ∷ 0 ∷ 0 ∷ 0 ∷ 0 ∷ 0 ∷ []) ∷
     shown (line 0 0 (answer 2 (trading_with (referring 1 990_000 1) []).stock)) (0 ∷ 0 ∷ 2 ∷ 0 ∷ 0 ∷ 0 ∷ 0 ∷ 0 ∷ 0 ∷ 0 ∷ 0 ∷ []) ∷

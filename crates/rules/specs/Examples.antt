@@ -25,9 +25,9 @@ right (after_test n d m c sum count prints) =
     all_of (eqb s.reference.price.sum sum ∷ eqb s.reference.price.count count ∷ eqb (printed_reference s) prints ∷ [])
 right (held at time is) = eqb (length (staying time (record { at = at; price = 1 } ∷ []))) is
 
-unfoldable pub by_hand_lem : List Row
-by_hand_lem =
-    map arithmetic Examples.by_hand_lem ++
+unfoldable pub by_hand : List Row
+by_hand =
+    map arithmetic Examples.by_hand ++
     -- B10
     after_test 100_000 1 100_999 1 100_000 1 100_000 ∷
     after_test 100_000 1 101_000 1 101_000 1 101_000 ∷

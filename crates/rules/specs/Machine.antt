@@ -2,7 +2,7 @@
 -- "What the book holds"). It uses two numbers of the rules: 3 for an unknown stock, and 14 where no moment is due.
 -- Assumes nothing.
 use Rattle.std.specs.Prelude.{ℕ, ◌≤◌, ◌<◌, List, [], ◌∷◌, ◌++◌, map, ◌⊎◌, ◌≡◌, ltb, eqb, length, get_or, set}
-use Rattle.forms.specs.Choice.{if◌then◌else◌}
+use Rattle.forms.specs.Choice.{if◌then◌otherwise◌}
 
 -- ------------------------------------------------------------------ the machine
 
@@ -69,7 +69,7 @@ pub record On (A : Type 0) : Type 0 where
 -- those about the stock i
 unfoldable pub of : {A : Type 0} → ℕ → List (On A) → List A
 of i [] = []
-of i (x ∷ xs) = (if eqb i x.at then x.it ∷ [] else []) ++ of i xs
+of i (x ∷ xs) = (if eqb i x.at then x.it ∷ [] otherwise []) ++ of i xs
 
 -- the proposition holds for each of a list
 abbrev pub Every : {A : Type 0} → (A → Type 0) → List A → Type 0
@@ -79,7 +79,7 @@ Every P (x ∷ xs) = P x × Every P xs
 -- the journal of calls, where a function gives each call's number: those that were answered 0, in order
 abbrev pub journal : {A : Type 0} → (A → ℕ) → List A → List A
 journal number [] = []
-journal number (x ∷ xs) = if eqb (number x) 0 then x ∷ journal number xs else journal number xs
+journal number (x ∷ xs) = if eqb (number x) 0 then x ∷ journal number xs otherwise journal number xs
 
 -- a journal that may have refused calls too: all calls that were answered 0 and any of the others, in order
 abbrev pub IsJournal : {A : Type 0} → (A → ℕ) → List A → List A → Type 0
@@ -174,15 +174,15 @@ module _ (𝓜 : Machine) where
 
     -- the number that answers a call: 3 where there is no such stock
     unfoldable pub number_in : Book → On (Call Message) → ℕ
-    number_in b c = if ltb c.at (length b) then number c.it (stock b c.at) else 3
+    number_in b c = if ltb c.at (length b) then number c.it (stock b c.at) otherwise 3
 
     -- the book after a call: a refused call changes nothing, an accepted one changes only its stock
     unfoldable pub step_in : Book → On (Call Message) → Book
-    step_in b c = if eqb (number_in b c) 0 then set b c.at (done c.it (stock b c.at)) else b
+    step_in b c = if eqb (number_in b c) 0 then set b c.at (done c.it (stock b c.at)) otherwise b
 
     -- what a call makes happen: nothing where it is refused
     unfoldable pub happens : Book → On (Call Message) → List (On (Event Message Notice))
-    happens b c = if eqb (number_in b c) 0 then record { at = c.at; it = event c.it (stock b c.at) } ∷ [] else []
+    happens b c = if eqb (number_in b c) 0 then record { at = c.at; it = event c.it (stock b c.at) } ∷ [] otherwise []
 
     -- the book after calls
     abbrev pub run : Book → Calls → Book

@@ -1,11 +1,11 @@
 -- The messages, and what each does once it is accepted (document 01, "Messages").
 -- Assumes nothing.
 use Rattle.std.specs.Prelude.{ℕ, List, [], ◌∷◌, ◌++◌, leb, ltb, set}
-use Rattle.forms.specs.Choice.{if◌then◌else◌}
+use Rattle.forms.specs.Choice.{if◌then◌otherwise◌}
 use Rattle.forms.specs.Tables.{entry}
 use Rattle.band.specs.Band.{price_of}
 use Rattle.rules.specs.Stock.{Whole, Waiting, Limit, clock_of, is, at_time, with_quotes, figures_of, mean_in}
-use Rattle.rules.specs.States.{look, begin_trading_lem, leave, test, begin_pause_lem, shut}
+use Rattle.rules.specs.States.{look, begin_trading, leave, test, begin_pause, shut}
 use Rattle.rules.specs.declared.Stock.{Stock}
 use Rattle.rules.specs.declared.Figures.{Figures}
 use Rattle.rules.specs.declared.Message.{Message}
@@ -72,26 +72,26 @@ time_of (X time participant price) = time
 
 -- whether the state takes a message of the kind: 0, or the number that refuses it; a state over 5 refuses as Closed does
 unfoldable pub taken : ℕ → ℕ → ℕ
-taken kind state = if ltb state 6 then entry table kind state else 7
+taken kind state = if ltb state 6 then entry table kind state otherwise 7
 
 -- ------------------------------------------------------------------ "Messages": what each does, the clock being at its time
 
 -- a trade has joined: in Waiting, from 300,000 on, the mean is the first reference; Trading makes the Test
 unfoldable pub trade_rules : Figures → Stock → Stock
-trade_rules f s = if is Waiting s then (if leb 300_000 (clock_of s) then begin_trading_lem (mean_in f) s else s) else test f s
+trade_rules f s = if is Waiting s then (if leb 300_000 (clock_of s) then begin_trading (mean_in f) s otherwise s) otherwise test f s
 
 -- a quote is set: Limit may end; Trading looks at the quotes
 unfoldable pub quote_rules : Figures → Stock → Stock
-quote_rules f s = if is Limit s then leave f s else look s
+quote_rules f s = if is Limit s then leave f s otherwise look s
 
 -- one participant's bid and offer are set
-abbrev pub with_quote_lem : ℕ → ℕ → ℕ → Stock → Stock
-with_quote_lem participant bid offer s =
+abbrev pub with_quote : ℕ → ℕ → ℕ → Stock → Stock
+with_quote participant bid offer s =
     with_quotes (record { bids = set s.quotes.bids participant bid; offers = set s.quotes.offers participant offer }) s
 
 -- an opening or a reopening: the window is its price alone, dated by the message, and so is the reference
 abbrev pub opened : ℕ → ℕ → Whole → Whole
-opened time price h = record { stock = begin_trading_lem (price_of price) h.stock; window = record { at = time; price = price } ∷ [] }
+opened time price h = record { stock = begin_trading (price_of price) h.stock; window = record { at = time; price = price } ∷ [] }
 
 -- each message's effect
 unfoldable pub does : Message → Whole → Whole
@@ -99,9 +99,9 @@ does (T time price) h =
     let w = h.window ++ (record { at = time; price = price } ∷ []) in
     record { stock = trade_rules (figures_of w) h.stock; window = w }
 does (Q time participant bid offer) h =
-    record { stock = quote_rules (figures_of h.window) (with_quote_lem participant bid offer h.stock); window = h.window }
+    record { stock = quote_rules (figures_of h.window) (with_quote participant bid offer h.stock); window = h.window }
 does (O time participant price) h = opened time price h
-does (P time participant) h = record { stock = begin_pause_lem h.stock; window = h.window }
+does (P time participant) h = record { stock = begin_pause h.stock; window = h.window }
 does (R time participant price) h = opened time price h
 does (X time participant price) h = record { stock = shut h.stock; window = [] }
 

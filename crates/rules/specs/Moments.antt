@@ -1,9 +1,9 @@
 -- The moments (document 01, "Moments").
 -- Assumes nothing.
 use Rattle.std.specs.Prelude.{ℕ, ◌+◌, ◌-◌, Bool, not, List, [], ◌∷◌, leb, ltb, eqb}
-use Rattle.forms.specs.Choice.{if◌then◌else◌, all_of, any_of}
+use Rattle.forms.specs.Choice.{if◌then◌otherwise◌, all_of, any_of}
 use Rattle.rules.specs.Stock.{Trade, Whole, Waiting, Limit, Paused, Late, state_of, clock_of, is, at_time, hold_ended, not_early, figures_of, no_trades, mean_in, staying}
-use Rattle.rules.specs.States.{look, begin_trading_lem, test, begin_pause_lem, shut}
+use Rattle.rules.specs.States.{look, begin_trading, test, begin_pause, shut}
 use Rattle.rules.specs.declared.Stock.{Stock}
 use Rattle.rules.specs.declared.Figures.{Figures}
 use Rattle.rules.specs.declared.Moment.{Moment}
@@ -79,8 +79,8 @@ moment_table f s =
 -- the earlier of a row and what the rows after it give; of two at one time the row
 unfoldable pub sooner : Row → Moment → Moment
 sooner r m =
-    if not r.comes then m else
-    if any_of (eqb m.mark 0 ∷ leb r.time m.time ∷ []) then record { mark = r.mark; time = r.time } else
+    if not r.comes then m otherwise
+    if any_of (eqb m.mark 0 ∷ leb r.time m.time ∷ []) then record { mark = r.mark; time = r.time } otherwise
     m
 
 -- the earliest of a table, no moment where none is still to come
@@ -103,26 +103,26 @@ past_at time m = all_of (not (eqb m.mark 0) ∷ ltb m.time time ∷ [])
 -- ------------------------------------------------------------------ "Moments": what each does, at its own time
 
 -- f: with a trade in the window, Trading with the mean as reference
-unfoldable pub first_five_lem : Figures → Stock → Stock
-first_five_lem f s = if no_trades f then not_early s else begin_trading_lem (mean_in f) (not_early s)
+unfoldable pub first_five : Figures → Stock → Stock
+first_five f s = if no_trades f then not_early s otherwise begin_trading (mean_in f) (not_early s)
 
 -- the effect on the stock, with the figures of the window that the moment leaves; w changes k, and in Trading the bands with it
 unfoldable pub effect : ℕ → Figures → Stock → Stock
 effect mark f s =
-    if eqb mark mark_z then shut s else
-    if eqb mark mark_w then look s else
-    if eqb mark mark_x then begin_pause_lem s else
-    if eqb mark mark_p then begin_trading_lem s.reference.price s else
-    if eqb mark mark_c then shut s else
-    if eqb mark mark_v then test f s else
-    if eqb mark mark_f then first_five_lem f s else
+    if eqb mark mark_z then shut s otherwise
+    if eqb mark mark_w then look s otherwise
+    if eqb mark mark_x then begin_pause s otherwise
+    if eqb mark mark_p then begin_trading s.reference.price s otherwise
+    if eqb mark mark_c then shut s otherwise
+    if eqb mark mark_v then test f s otherwise
+    if eqb mark mark_f then first_five f s otherwise
     test f (hold_ended s)
 
 -- the effect on the window: v lets trades leave, z and c empty it
 unfoldable pub window_after : Moment → List Trade → List Trade
 window_after m w =
-    if eqb m.mark mark_v then staying m.time w else
-    if any_of (eqb m.mark mark_z ∷ eqb m.mark mark_c ∷ []) then [] else
+    if eqb m.mark mark_v then staying m.time w otherwise
+    if any_of (eqb m.mark mark_z ∷ eqb m.mark mark_c ∷ []) then [] otherwise
     w
 
 -- the effect on both; the clock moves to the moment's time

@@ -2,7 +2,7 @@
 -- Assumes nothing.
 use Rattle.std.specs.Prelude.{ℕ, ◌+◌, ◌-◌, ◌*◌, Bool, true, false, not, leb, ltb, eqb, length}
 use mathlib.Core.List.{List, [], ◌∷◌, foldl}
-use Rattle.forms.specs.Choice.{if◌then◌else◌, all_of, any_of}
+use Rattle.forms.specs.Choice.{if◌then◌otherwise◌, all_of, any_of}
 use Rattle.forms.specs.Checks.{Check, first}
 use Rattle.forms.specs.Checks.Check.{◌when◌}
 use Rattle.band.specs.Band.{no_mean, printed_by}
@@ -70,7 +70,7 @@ bad_times s = any_of (
 
 -- one was out of range before, or this side of a quote is
 unfoldable pub or_not_side : Bool → ℕ → Bool
-or_not_side bad price = if bad then true else not_side price
+or_not_side bad price = if bad then true otherwise not_side price
 
 -- a bid or an offer is out of range
 unfoldable pub bad_quotes : Quotes → Bool
@@ -99,7 +99,7 @@ bad_trade clock last t = any_of (not_price t.price ∷ ltb clock t.at ∷ ltb t.
 
 -- the trades gone over, with one more
 unfoldable pub see : ℕ → Seen → Trade → Seen
-see clock seen t = record { bad = if seen.bad then true else bad_trade clock seen.last t; last = t.at }
+see clock seen t = record { bad = if seen.bad then true otherwise bad_trade clock seen.last t; last = t.at }
 
 -- a held trade is bad
 unfoldable pub bad_trades : ℕ → List Trade → Bool
@@ -243,16 +243,16 @@ printed_reference s = printed_by s.reference.price
 -- a number with what the stock shows; after 1, 2 and 3 zeros
 unfoldable pub answer : ℕ → Stock → Answer
 answer number s =
-    if any_of (eqb number 1 ∷ eqb number 2 ∷ eqb number 3 ∷ []) then zeros number else
+    if any_of (eqb number 1 ∷ eqb number 2 ∷ eqb number 3 ∷ []) then zeros number otherwise
     record { number = number; state = state_of s; reference = printed_reference s; lower = (bands_in s).lower; upper = (bands_in s).upper; best = best_of s }
 
 -- the stock after a message: as the rules make it where the number is 0, else as it was
 unfoldable pub after_telling : Message → Whole → Whole
-after_telling m h = if eqb (tells m h) 0 then after m h else h
+after_telling m h = if eqb (tells m h) 0 then after m h otherwise h
 
 -- the stock after settling: with its earliest moment done where the number is 0, else as it was
 unfoldable pub after_settling : ℕ → Whole → Whole
-after_settling time h = if eqb (settles time h) 0 then fire h else h
+after_settling time h = if eqb (settles time h) 0 then fire h otherwise h
 
 -- the answer to a message: the number, and what the stock then shows
 unfoldable pub tell_answer : Message → Whole → Answer
@@ -268,7 +268,7 @@ none_coming number = record { number = number; mark = 0; time = 0 }
 
 -- the answer to asking what comes next: the number of reading, and where it is 0 the stock's earliest moment
 unfoldable pub next_answer : Whole → Upcoming
-next_answer h = if eqb (reads h) 0 then record { number = 0; mark = (next_of h).mark; time = (next_of h).time } else none_coming (reads h)
+next_answer h = if eqb (reads h) 0 then record { number = 0; mark = (next_of h).mark; time = (next_of h).time } otherwise none_coming (reads h)
 
 -- an answer with the mark and the time of a moment
 abbrev pub beside : Moment → Answer → Notice
@@ -284,7 +284,7 @@ notice h = beside (next_of h) (answer 0 (fire h).stock)
 
 -- the answer to settling: the notice, or zeros for the mark and the time where no moment was done
 unfoldable pub settle_answer : ℕ → Whole → Notice
-settle_answer time h = if eqb (settles time h) 0 then notice h else beside no_moment (answer (settles time h) h.stock)
+settle_answer time h = if eqb (settles time h) 0 then notice h otherwise beside no_moment (answer (settles time h) h.stock)
 
 -- ------------------------------------------------------------------ "What the book holds": setup; its checks, "Numbers given back"
 
@@ -303,7 +303,7 @@ fresh end u = record {
 
 -- one was out of range before, or this setup is
 unfoldable pub or_bad_setup : Bool → Setup → Bool
-or_bad_setup bad u = if bad then true else bad_setup u
+or_bad_setup bad u = if bad then true otherwise bad_setup u
 
 -- the checks of a setup: 1 for the shape and the list, 2 for what is out of range
 unfoldable pub setup_checks : ℕ → ℕ → ℕ → ℕ → List Setup → List Check

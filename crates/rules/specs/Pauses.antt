@@ -2,7 +2,7 @@
 -- Limit or in a pause.
 -- Assumes nothing.
 use Rattle.std.specs.Prelude.{ℕ, [], ◌∷◌, ◌≡◌, ltb}
-use Rattle.forms.specs.Choice.{if◌then◌else◌}
+use Rattle.forms.specs.Choice.{if◌then◌otherwise◌}
 use Rattle.forms.specs.Words.{◌or◌, ◌and◌}
 use Rattle.rules.specs.Stock.{Whole, Limit, Paused, Late, state_of}
 use Rattle.rules.specs.Machine.{Event, message, moment, dated, becomes, Throughout, Since}
@@ -14,7 +14,7 @@ use Rattle.rules.specs.declared.Message.{Message}
 -- the events before `time`
 unfoldable pub before : ℕ → Story → Story
 before time [] = []
-before time (e ∷ es) = if ltb (dated machine e) time then e ∷ before time es else []
+before time (e ∷ es) = if ltb (dated machine e) time then e ∷ before time es otherwise []
 
 -- in a pause of either kind
 abbrev pub InPause : Whole → Type 0

@@ -2,7 +2,7 @@
 -- Assumes nothing.
 use Rattle.std.specs.Prelude.{ℕ, max, min, Bool, false, ltb, eqb}
 use mathlib.Core.List.{List, [], ◌∷◌, foldl}
-use Rattle.forms.specs.Choice.{if◌then◌else◌, all_of, any_of}
+use Rattle.forms.specs.Choice.{if◌then◌otherwise◌, all_of, any_of}
 use Rattle.band.specs.Band.{percent_of, factor_of, bands_of}
 use Rattle.band.specs.declared.Bands.{Bands}
 use Rattle.rules.specs.Stock.{Trading, Limit, is, clock_of}
@@ -17,7 +17,7 @@ in_force s = any_of (is Trading s ∷ is Limit s ∷ [])
 
 -- the time that decides k: in Limit that of its entry
 unfoldable pub k_time : Stock → ℕ
-k_time s = if is Limit s then s.course.entry else clock_of s
+k_time s = if is Limit s then s.course.entry otherwise clock_of s
 
 -- lower and upper, 0 outside the states in which bands are in force
 unfoldable pub bands_in : Stock → Bands
@@ -25,19 +25,19 @@ bands_in s =
     if in_force s then
     bands_of s.reference.price.sum s.reference.price.count (percent_of s.setup.tier s.setup.close)
     (factor_of s.setup.leverage (k_time s) s.end)
-    else record { lower = 0; upper = 0 }
+    otherwise record { lower = 0; upper = 0 }
 
 -- ------------------------------------------------------------------ "Quotes and flags": the best bid and the best offer
 
 -- the better of two bids: the higher one, but none above the upper band in force
 unfoldable pub higher : Bool → ℕ → ℕ → ℕ → ℕ
-higher on upper best bid = if all_of (on ∷ ltb upper bid ∷ []) then best else max best bid
+higher on upper best bid = if all_of (on ∷ ltb upper bid ∷ []) then best otherwise max best bid
 
 -- the better of two offers: the lower one, but none that is absent or below the lower band in force
 unfoldable pub lesser : Bool → ℕ → ℕ → ℕ → ℕ
 lesser on lower best offer =
-    if any_of (eqb offer 0 ∷ all_of (on ∷ ltb offer lower ∷ []) ∷ []) then best else
-    if eqb best 0 then offer else
+    if any_of (eqb offer 0 ∷ all_of (on ∷ ltb offer lower ∷ []) ∷ []) then best otherwise
+    if eqb best 0 then offer otherwise
     min best offer
 
 -- the best bid of all participants, 0 where none counts
@@ -53,15 +53,15 @@ best_offer on lower offers = foldl (lesser on lower) 0 offers
 -- the flag of a best bid: 0 where it is absent, 2 (non-executable) under the lower band, 3 (limit) at the upper band, else 1 (plain)
 unfoldable pub bid_flag : Bool → Bands → ℕ → ℕ
 bid_flag on bands bid =
-    if eqb bid 0 then 0 else
-    if on then (if ltb bid bands.lower then 2 else if eqb bid bands.upper then 3 else 1) else
+    if eqb bid 0 then 0 otherwise
+    if on then (if ltb bid bands.lower then 2 otherwise if eqb bid bands.upper then 3 otherwise 1) otherwise
     1
 
 -- the flag of a best offer: 0 where it is absent, 2 over the upper band, 3 at the lower band, else 1
 unfoldable pub offer_flag : Bool → Bands → ℕ → ℕ
 offer_flag on bands offer =
-    if eqb offer 0 then 0 else
-    if on then (if ltb bands.upper offer then 2 else if eqb offer bands.lower then 3 else 1) else
+    if eqb offer 0 then 0 otherwise
+    if on then (if ltb bands.upper offer then 2 otherwise if eqb offer bands.lower then 3 otherwise 1) otherwise
     1
 
 -- the best bid and the best offer of a stock, each with its flag
@@ -87,4 +87,4 @@ straddle s = flagged 2 (best_of s)
 
 -- the best bid is higher than the best offer; where a side is absent nothing crosses
 unfoldable pub crossed : Best → Bool
-crossed b = if eqb b.offer.price 0 then false else ltb b.offer.price b.bid.price
+crossed b = if eqb b.offer.price 0 then false otherwise ltb b.offer.price b.bid.price

@@ -3,7 +3,7 @@
 -- that starts a reference is the stock's.
 -- Assumes nothing.
 use Rattle.std.specs.Prelude.{ℕ, zero, suc, ◌+◌, ◌≤◌, ◌<◌, Bool, List, [], ◌∷◌, ◌++◌, ◌≡◌, eqb, ltb}
-use Rattle.forms.specs.Choice.{if◌then◌else◌}
+use Rattle.forms.specs.Choice.{if◌then◌otherwise◌}
 use Rattle.forms.specs.Words.{◌or◌, ◌and◌, IsOneOf}
 use Rattle.rules.specs.Stock.{Trade, Whole, Waiting, Trading, Limit, Paused, Late, Closed, state_of}
 use Rattle.band.specs.declared.Mean.{Mean}
@@ -54,7 +54,7 @@ last_date last (e ∷ es) = last_date (dated machine e) es
 -- the starts of the limit pauses among a stock's notices, in order: a limit pause is one that x began, Paused or Late, and it starts at x's date
 unfoldable pub limit_pauses : List Notice → List ℕ
 limit_pauses [] = []
-limit_pauses (n ∷ ns) = if eqb (mark_of n) mark_x then n.time ∷ limit_pauses ns else limit_pauses ns
+limit_pauses (n ∷ ns) = if eqb (mark_of n) mark_x then n.time ∷ limit_pauses ns otherwise limit_pauses ns
 
 -- ------------------------------------------------------------------ moments in a row
 
@@ -62,7 +62,7 @@ limit_pauses (n ∷ ns) = if eqb (mark_of n) mark_x then n.time ∷ limit_pauses
 unfoldable pub count_of : ℕ → Story → ℕ
 count_of mark [] = 0
 count_of mark (message m ∷ es) = count_of mark es
-count_of mark (moment n ∷ es) = (if eqb (mark_of n) mark then 1 else 0) + count_of mark es
+count_of mark (moment n ∷ es) = (if eqb (mark_of n) mark then 1 otherwise 0) + count_of mark es
 
 -- the events are moments only
 abbrev pub MomentsOnly : Story → Type 0
@@ -75,7 +75,7 @@ MomentsOnly (moment n ∷ es) = MomentsOnly es
 -- the events up to `time`, that millisecond included
 unfoldable pub up_to : ℕ → Story → Story
 up_to time [] = []
-up_to time (e ∷ es) = if ltb time (dated machine e) then [] else e ∷ up_to time es
+up_to time (e ∷ es) = if ltb time (dated machine e) then [] otherwise e ∷ up_to time es
 
 -- the state of a stock in a millisecond: the one that the last event up to then left; h is the stock before the story
 abbrev pub state_at : Whole → Story → ℕ → ℕ
@@ -84,7 +84,7 @@ state_at h es time = state_of (left machine h (up_to time es)).stock
 -- how many of the numbers below n are such
 unfoldable pub how_many : (ℕ → Bool) → ℕ → ℕ
 how_many such zero = 0
-how_many such (suc n) = (if such n then 1 else 0) + how_many such n
+how_many such (suc n) = (if such n then 1 otherwise 0) + how_many such n
 
 -- how many milliseconds, from 0 to the last event, the stock was in a state
 abbrev pub milliseconds_in : ℕ → Whole → Story → ℕ

@@ -2,7 +2,7 @@
 -- Assumes nothing.
 use Rattle.std.specs.Prelude.{ℕ, ◌+◌, Bool, ltb, eqb, length}
 use mathlib.Core.List.{List, [], ◌∷◌, foldl}
-use Rattle.forms.specs.Choice.{if◌then◌else◌}
+use Rattle.forms.specs.Choice.{if◌then◌otherwise◌}
 use Rattle.band.specs.declared.Mean.{Mean}
 use Rattle.rules.specs.declared.Course.{Course}
 use Rattle.rules.specs.declared.Reference.{Reference}
@@ -61,54 +61,54 @@ is state s = eqb (state_of s) state
 -- ------------------------------------------------------------------ setters
 
 -- the stock with another course: state, clock, and what is kept with them
-abbrev pub with_course_lem : Course → Stock → Stock
-with_course_lem c s = record { setup = s.setup; end = s.end; course = c; reference = s.reference; quotes = s.quotes }
+abbrev pub with_course : Course → Stock → Stock
+with_course c s = record { setup = s.setup; end = s.end; course = c; reference = s.reference; quotes = s.quotes }
 
 -- the stock with other quotes
 abbrev pub with_quotes : Quotes → Stock → Stock
 with_quotes q s = record { setup = s.setup; end = s.end; course = s.course; reference = s.reference; quotes = q }
 
 -- the stock with another reference
-abbrev pub with_reference_lem : Reference → Stock → Stock
-with_reference_lem r s = record { setup = s.setup; end = s.end; course = s.course; reference = r; quotes = s.quotes }
+abbrev pub with_reference : Reference → Stock → Stock
+with_reference r s = record { setup = s.setup; end = s.end; course = s.course; reference = r; quotes = s.quotes }
 
 -- the stock with its clock at `time`
 abbrev pub at_time : ℕ → Stock → Stock
 at_time time s =
     let c = s.course in
-    with_course_lem (record { state = c.state; clock = time; early = c.early; entry = c.entry; pause = c.pause }) s
+    with_course (record { state = c.state; clock = time; early = c.early; entry = c.entry; pause = c.pause }) s
 
 -- the stock in another state
 abbrev pub in_state : ℕ → Stock → Stock
 in_state state s =
     let c = s.course in
-    with_course_lem (record { state = state; clock = c.clock; early = c.early; entry = c.entry; pause = c.pause }) s
+    with_course (record { state = state; clock = c.clock; early = c.early; entry = c.entry; pause = c.pause }) s
 
 -- the stock in Limit, entered now
 abbrev pub enter_limit : Stock → Stock
 enter_limit s =
     let c = s.course in
-    with_course_lem (record { state = Limit; clock = c.clock; early = c.early; entry = c.clock; pause = c.pause }) s
+    with_course (record { state = Limit; clock = c.clock; early = c.early; entry = c.clock; pause = c.pause }) s
 
 -- the stock in a pause of either kind, started now
 abbrev pub enter_pause : ℕ → Stock → Stock
 enter_pause state s =
     let c = s.course in
-    with_course_lem (record { state = state; clock = c.clock; early = c.early; entry = c.entry; pause = c.clock }) s
+    with_course (record { state = state; clock = c.clock; early = c.early; entry = c.entry; pause = c.clock }) s
 
 -- the stock once the moment f has happened
 abbrev pub not_early : Stock → Stock
 not_early s =
     let c = s.course in
-    with_course_lem (record { state = c.state; clock = c.clock; early = 0; entry = c.entry; pause = c.pause }) s
+    with_course (record { state = c.state; clock = c.clock; early = 0; entry = c.entry; pause = c.pause }) s
 
 -- the stock with the reference `price`, which is exact (R-3), started now, with a new hold
 abbrev pub refer_to : Mean → Stock → Stock
-refer_to price s = with_reference_lem (record { price = price; start = clock_of s; hold = 1 }) s
+refer_to price s = with_reference (record { price = price; start = clock_of s; hold = 1 }) s
 
 -- the stock once the moment h has happened
 abbrev pub hold_ended : Stock → Stock
-hold_ended s = with_reference_lem (record { price = s.reference.price; start = s.reference.start; hold = 0 }) s
+hold_ended s = with_reference (record { price = s.reference.price; start = s.reference.start; hold = 0 }) s
 
 -- ------------------------------------------------------------------ "States": the window
 
@@ -136,4 +136,4 @@ mean_in f = record { sum = f.sum; count = f.count }
 -- The trades that have not left at `time`, when each stays for 300,000. The oldest stand first.
 unfoldable pub staying : ℕ → List Trade → List Trade
 staying time [] = []
-staying time (t ∷ ts) = if ltb time (t.at + 300_000) then t ∷ ts else staying time ts
+staying time (t ∷ ts) = if ltb time (t.at + 300_000) then t ∷ ts otherwise staying time ts

@@ -1,7 +1,7 @@
 -- The day totals beside a stock, and the rule that brings them up to date (document 02, R-4).
 -- Assumes nothing.
 use Rattle.std.specs.Prelude.{ℕ, ◌+◌, ◌-◌, Bool, not, [], ◌∷◌, ltb, eqb}
-use Rattle.forms.specs.Choice.{if◌then◌else◌, all_of, any_of}
+use Rattle.forms.specs.Choice.{if◌then◌otherwise◌, all_of, any_of}
 use Rattle.rules.specs.Stock.{Waiting, Trading, Limit, Paused, Late, Closed, state_of, clock_of, is}
 use Rattle.rules.specs.Numbers.{not_side}
 use Rattle.rules.specs.Machine.{Event, message, moment}
@@ -26,7 +26,7 @@ no_totals = record {
 
 -- a time, and so much more of it where the stock was in its state
 unfoldable pub longer : Bool → ℕ → ℕ → ℕ
-longer here more time = if here then time + more else time
+longer here more time = if here then time + more otherwise time
 
 -- the times, after so much more of them in one state
 abbrev pub spend : (state more : ℕ) → StateTimes → StateTimes
@@ -51,7 +51,7 @@ most_counted = 4_294_967_295
 
 -- a count, and one more where it is to be counted
 unfoldable pub one_more : Bool → ℕ → ℕ
-one_more one n = if all_of (one ∷ ltb n most_counted ∷ []) then n + 1 else n
+one_more one n = if all_of (one ∷ ltb n most_counted ∷ []) then n + 1 otherwise n
 
 -- A Limit began: a stay in Limit keeps its entry and its reference, and one that was begun afresh in the same call has another of them.
 unfoldable pub begins_limit : Stock → Stock → Bool
@@ -88,11 +88,11 @@ traded_by (moment n) = 0
 
 -- the highest with one more price
 unfoldable pub highest_with : ℕ → ℕ → ℕ
-highest_with price n = if ltb n price then price else n
+highest_with price n = if ltb n price then price otherwise n
 
 -- the lowest with one more price, where 0 is none
 unfoldable pub lowest_with : ℕ → ℕ → ℕ
-lowest_with price n = if all_of (not (eqb price 0) ∷ any_of (eqb n 0 ∷ ltb price n ∷ []) ∷ []) then price else n
+lowest_with price n = if all_of (not (eqb price 0) ∷ any_of (eqb n 0 ∷ ltb price n ∷ []) ∷ []) then price otherwise n
 
 -- ------------------------------------------------------------------ the rule
 

@@ -1,7 +1,7 @@
 -- Day totals in words (document 02, R-4): what an event makes of them, and the tables of numbers of a stock with totals. No test of the rules is used.
 -- `Words` and `Changes` say how to read it.
 -- Assumes nothing.
-use Rattle.std.specs.Prelude.{ℕ, ◌+◌, ◌-◌, ◌≤◌, ◌<◌, List, ◌∷◌, ◌≡◌}
+use Rattle.std.specs.Prelude.{ℕ, ◌+◌, ◌-◌, ◌<◌, List, ◌∷◌, ◌≡◌}
 use Rattle.forms.specs.Words.{◌or◌, ◌and◌, Number}
 use Rattle.forms.specs.Words.Number.{◌for◌}
 use Rattle.rules.specs.Stock.{Whole, Waiting, Trading, Limit, Paused, Late, Closed, state_of, clock_of}
@@ -13,7 +13,6 @@ use Rattle.rules.specs.Changes.{date_of, IsNew, StartsPause, Enters}
 use Rattle.rules.specs.declared.Stock.{Stock}
 use Rattle.rules.specs.declared.StateTimes.{StateTimes}
 use Rattle.rules.specs.declared.Totals.{Totals}
-use Rattle.rules.specs.declared.Summary.{Summary}
 use Rattle.rules.specs.declared.Notice.{Notice}
 use Rattle.rules.specs.declared.Message.{Message}
 use Rattle.rules.specs.declared.Message.TheVariants.{Trade as T}

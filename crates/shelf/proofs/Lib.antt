@@ -1,4 +1,3 @@
-pub mod Cut
 pub mod Choosing
 pub mod Refusing
 pub mod Laws

@@ -1,5 +1,7 @@
 // A book of at most eight stocks by value, so that a program can keep it in a local variable; the first n records
 // are the book. No function has a `requires`: where n is over eight, the answer is number 1 and nothing changes.
+#![tactic(auto)]
+
 ghost use Rattle.std.specs.Prelude.{◌≡◌};
 ghost use Rattle.shelf.specs.Blank.{blank_records};
 ghost use Rattle.shelf.specs.First.{Within, SetsUpFirst, TellsFirst, SettlesFirst, Same, untold, unsettled};
@@ -12,14 +14,14 @@ mod refuse;
 mod zero;
 
 // An answer, with the next records.
-#[derive(Drop)]
+#[derive(Clone, Copy)]
 pub struct Told8 {
     pub answer: Answer,
     pub book: [Record; 8],
 }
 
 // Settling's notice, with the next records.
-#[derive(Drop)]
+#[derive(Clone, Copy)]
 pub struct Settled8 {
     pub notice: Notice,
     pub book: [Record; 8],

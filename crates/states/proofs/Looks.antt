@@ -11,7 +11,7 @@ use Rattle.forms.proofs.Bools.{joined}
 use Rattle.band.specs.Words as arithmetic
 use Rattle.rules.specs.Stock.{Trading, Limit, in_state, refer_to, enter_limit}
 use Rattle.rules.specs.Quotes.{best_of, flagged, at_limit, crossed}
-use Rattle.rules.specs.States.{look, begin_trading_lem, leave}
+use Rattle.rules.specs.States.{look, begin_trading, leave}
 use Rattle.rules.specs.Messages.{quote_rules}
 use Rattle.rules.specs.declared.Best.{Best}
 use Rattle.rules.specs.declared.Figures.{Figures}
@@ -95,7 +95,7 @@ module _ (t : Turn) (q : Quotes) (b : Basis) (shown : Shown) (room : Room t.kept
           → d ≡ basis_of n → again ≡ shown_of (stock_by d q)
           → ((p : Quotes) → again.best ≡ best_of (stock_of n p) → stock_of m p ≡ look (stock_of n p))
           → ◌≡◌ {A = After} (record { kept = m; quotes = q; shown = again }) (after_of (left_to t f q))
-      unfolding left_to quote_rules leave begin_trading_lem
+      unfolding left_to quote_rules leave begin_trading
       left_over n m d again g h en ed eg r =
           let all : all_of (eqb t.kept.course.state Limit ∷ not (at_limit s) ∷ []) ≡ true = sym row_is ∙ h in
           let off : at_limit s ≡ false = not-true _ (all_head _ _ (all_tail _ _ all)) in

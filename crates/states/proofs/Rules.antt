@@ -7,16 +7,16 @@ use mathlib.Core.Path.{◌≡◌, refl, sym, ap, ◌∙◌}
 use native.Mathlib.Omega.{arith}
 use borrow.Author.Tests.{le-leb, lt-leb, eq-eqb, ne_eqb}
 use lib.Dec.{eqb}
-use Rattle.forms.specs.Choice.{if◌then◌else◌, all_of, any_of}
+use Rattle.forms.specs.Choice.{if◌then◌otherwise◌, all_of, any_of}
 use Rattle.forms.proofs.Choice.{ne_not, if_true, if_false, all_yes, all_empty, all_not_here, all_not_there}
 use Rattle.band.specs.Band.{price_of, fit, moves_of}
 use Rattle.band.specs.Words as arithmetic
 use Rattle.band.specs.declared.Mean.{Mean}
 use Rattle.band.proofs.Words.{fit_as_it_is}
 use Rattle.rules.specs.Stock.{Waiting, Trading, Paused, Late, Closed, in_state, at_time, refer_to, hold_ended, not_early, enter_pause, no_trades, mean_in}
-use Rattle.rules.specs.States.{look, begin_trading_lem, test, begin_pause_lem, shut}
+use Rattle.rules.specs.States.{look, begin_trading, test, begin_pause, shut}
 use Rattle.rules.specs.Messages.{trade_rules, quote_rules}
-use Rattle.rules.specs.Moments.{first_five_lem, effect}
+use Rattle.rules.specs.Moments.{first_five, effect}
 use Rattle.rules.specs.declared.Figures.{Figures}
 use Rattle.rules.specs.declared.Message.{Message}
 use Rattle.rules.specs.declared.Message.TheVariants.{Trade as T, Quote as Q, Opening as O, Pause as P, Reopening as R, Closing as X}
@@ -50,11 +50,11 @@ Still n t = t ≡ record { kept = n; looks = false }
 
 module _ (k : Kept) (rule : Stock → Stock) (n : Kept) (t : Turn) where
   pub looks : Looking n t → n.course.state ≡ Trading → Room n → ((q : Quotes) → look (stock_of n q) ≡ rule (stock_of k q)) → Turns rule k t
-  unfolding turned_to if◌then◌else◌
+  unfolding turned_to if◌then◌otherwise◌
   looks e s f r = record { made = λ q. rw e (r q); in_trading = λ _. rw e s; room = rw e f }
 
   pub stays : Still n t → Room n → ((q : Quotes) → stock_of n q ≡ rule (stock_of k q)) → Turns rule k t
-  unfolding turned_to if◌then◌else◌
+  unfolding turned_to if◌then◌otherwise◌
   stays e f r = record { made = λ q. rw e (r q); in_trading = λ l. absurd (false≢true (sym (ap (λ (t : Turn). t.looks) e) ∙ l)); room = rw e f }
 
 -- a turn by one rule is one by another that makes the same of the stock
@@ -64,22 +64,22 @@ by_rule k rule other t r e = record { made = λ q. r.made q ∙ e q; in_trading 
 
 module _ (k : Kept) where
   pub begun : (price : Mean) (n : Kept) (t : Turn) → arithmetic.Fits price → n ≡ kept_of (in_state Trading (refer_to price (bare k))) → Looking n t
-      → Turns (begin_trading_lem price) k t
-  unfolding begin_trading_lem
+      → Turns (begin_trading price) k t
+  unfolding begin_trading
   begun price n t f e l = looks k _ n t l (rw e) (rw e f) (λ q. rw e)
 
   -- ------------------------------------------------------------------ a pause
 
   pub paused_late : (n : Kept) (t : Turn) → Room k → k.end ≤ k.course.clock + 600_000 → n ≡ kept_of (enter_pause Late (bare k)) → Still n t
-      → Turns begin_pause_lem k t
-  unfolding begin_pause_lem
+      → Turns begin_pause k t
+  unfolding begin_pause
   paused_late n t f h e s =
       let l : k.end - 600_000 ≤ k.course.clock = omega arith in
       stays k _ n t s (rw e f) (λ q. simp (le-leb _ _ l, if_true, e))
 
   pub paused_early : (n : Kept) (t : Turn) → Room k → k.course.clock + 600_000 < k.end → n ≡ kept_of (enter_pause Paused (bare k)) → Still n t
-      → Turns begin_pause_lem k t
-  unfolding begin_pause_lem
+      → Turns begin_pause k t
+  unfolding begin_pause
   paused_early n t f h e s =
       let l : k.course.clock < k.end - 600_000 = omega arith in
       stays k _ n t s (rw e f) (λ q. simp (lt-leb _ _ l, if_false, e))
@@ -114,13 +114,13 @@ module _ (k : Kept) where
         pub test_near : (t : Turn) → x ≡ false → Still k t → Turns (test f) k t
         test_near t y s = test_stays t r (all_not_there _ _ (all_not_there _ _ (all_not_there _ _ (all_not_here _ _ (moved false y))))) s
 
-      pub opens : (t : Turn) → k.course.state ≡ Waiting → 300_000 ≤ k.course.clock → Turns (begin_trading_lem mean) k t → Turns (trade_rules f) k t
+      pub opens : (t : Turn) → k.course.state ≡ Waiting → 300_000 ≤ k.course.clock → Turns (begin_trading mean) k t → Turns (trade_rules f) k t
       unfolding trade_rules
       opens t w h r = by_rule k _ _ t r (λ q. simp (eq-eqb _ _ w, le-leb _ _ h, if_true, e))
 
-      pub five_some : (n : Kept) (t : Turn) → n ≡ kept_of (not_early (bare k)) → (f.count ≡ 0 → ⊥) → Turns (begin_trading_lem mean) n t
-          → Turns (first_five_lem f) k t
-      unfolding first_five_lem
+      pub five_some : (n : Kept) (t : Turn) → n ≡ kept_of (not_early (bare k)) → (f.count ≡ 0 → ⊥) → Turns (begin_trading mean) n t
+          → Turns (first_five f) k t
+      unfolding first_five
       five_some n t q z r = record {
         made = λ p. r.made p ∙ simp (q, e, ne_eqb _ _ z, if_false);
         in_trading = r.in_trading;
@@ -135,8 +135,8 @@ module _ (k : Kept) where
     unfolding trade_rules
     tests t w r = by_rule k _ _ t r (λ q. simp (ne_eqb _ _ w, if_false))
 
-    pub five_none : (n : Kept) (t : Turn) → Room k → n ≡ kept_of (not_early (bare k)) → f.count ≡ 0 → Still n t → Turns (first_five_lem f) k t
-    unfolding first_five_lem
+    pub five_none : (n : Kept) (t : Turn) → Room k → n ≡ kept_of (not_early (bare k)) → f.count ≡ 0 → Still n t → Turns (first_five f) k t
+    unfolding first_five
     five_none n t r q z s = stays k _ n t s (rw q r) (λ p. simp (eq-eqb _ _ z, if_true, q))
 
     -- ------------------------------------------------------------------ each message
@@ -161,23 +161,23 @@ module _ (k : Kept) where
       trades price e r = record { made = λ q. rw e (not_limit _ r q); room = r.room }
 
       pub quotes : (participant bid offer : ℕ) → m ≡ Q time participant bid offer → Room k → Looking k t → Told
-      unfolding quotes_told effect_at left_to if◌then◌else◌
+      unfolding quotes_told effect_at left_to if◌then◌otherwise◌
       quotes participant bid offer e r l = record { made = λ q. rw (e, l); room = rw l r }
 
-      pub opening : (participant price : ℕ) → m ≡ O time participant price → (p : Mean) → p ≡ price_of price → Turns (begin_trading_lem p) k t → Told
+      pub opening : (participant price : ℕ) → m ≡ O time participant price → (p : Mean) → p ≡ price_of price → Turns (begin_trading p) k t → Told
       unfolding quotes_told effect_at
       opening participant price e p i r = record { made = λ q. rw (e, ← i) (not_limit _ r q); room = r.room }
 
-      pub pauses : (participant : ℕ) → m ≡ P time participant → Turns begin_pause_lem k t → Told
+      pub pauses : (participant : ℕ) → m ≡ P time participant → Turns begin_pause k t → Told
       unfolding quotes_told effect_at
       pauses participant e r = record { made = λ q. rw e (not_limit _ r q); room = r.room }
 
-      pub reopening : (participant price : ℕ) → m ≡ R time participant price → (p : Mean) → p ≡ price_of price → Turns (begin_trading_lem p) k t → Told
+      pub reopening : (participant price : ℕ) → m ≡ R time participant price → (p : Mean) → p ≡ price_of price → Turns (begin_trading p) k t → Told
       unfolding quotes_told effect_at
       reopening participant price e p i r = record { made = λ q. rw (e, ← i) (not_limit _ r q); room = r.room }
 
       pub closes : (participant price : ℕ) (n : Kept) → m ≡ X time participant price → Room k → n ≡ kept_of (in_state Closed (bare k)) → Still n t → Told
-      unfolding quotes_told effect_at shut left_to if◌then◌else◌
+      unfolding quotes_told effect_at shut left_to if◌then◌otherwise◌
       closes participant price n e r c s = record { made = λ q. rw (e, s, c); room = rw (s, c) r }
 
     -- ------------------------------------------------------------------ each moment
@@ -188,31 +188,31 @@ module _ (k : Kept) where
 
       module _ (n : Kept) (r : Room k) (c : n ≡ kept_of (in_state Closed (bare k))) (s : Still n t) where
         pub at_z : mark ≡ 122 → Come
-        unfolding quotes_at effect shut turned_to any_of if◌then◌else◌
+        unfolding quotes_at effect shut turned_to any_of if◌then◌otherwise◌
         at_z e = record { made = λ q. rw (e, s, c); room = rw (s, c) r }
 
         pub at_c : mark ≡ 99 → Come
-        unfolding quotes_at effect shut turned_to any_of if◌then◌else◌
+        unfolding quotes_at effect shut turned_to any_of if◌then◌otherwise◌
         at_c e = record { made = λ q. rw (e, s, c); room = rw (s, c) r }
 
       pub at_w : mark ≡ 119 → Room k → Looking k t → Come
-      unfolding quotes_at effect turned_to any_of if◌then◌else◌
+      unfolding quotes_at effect turned_to any_of if◌then◌otherwise◌
       at_w e r l = record { made = λ q. rw (e, l); room = rw l r }
 
-      pub at_x : mark ≡ 120 → Turns begin_pause_lem k t → Come
-      unfolding quotes_at effect any_of if◌then◌else◌
+      pub at_x : mark ≡ 120 → Turns begin_pause k t → Come
+      unfolding quotes_at effect any_of if◌then◌otherwise◌
       at_x e r = record { made = λ q. rw e (r.made q); room = r.room }
 
-      pub at_p : mark ≡ 112 → Turns (begin_trading_lem k.reference.price) k t → Come
-      unfolding quotes_at effect any_of if◌then◌else◌
+      pub at_p : mark ≡ 112 → Turns (begin_trading k.reference.price) k t → Come
+      unfolding quotes_at effect any_of if◌then◌otherwise◌
       at_p e r = record { made = λ q. rw e (r.made q); room = r.room }
 
       pub at_v : mark ≡ 118 → Turns (test f) k t → Come
-      unfolding quotes_at effect any_of if◌then◌else◌
+      unfolding quotes_at effect any_of if◌then◌otherwise◌
       at_v e r = record { made = λ q. rw e (r.made q); room = r.room }
 
-      pub at_f : mark ≡ 102 → Turns (first_five_lem f) k t → Come
-      unfolding quotes_at effect any_of if◌then◌else◌
+      pub at_f : mark ≡ 102 → Turns (first_five f) k t → Come
+      unfolding quotes_at effect any_of if◌then◌otherwise◌
       at_f e r = record { made = λ q. rw e (r.made q); room = r.room }
 
       pub at_h : (mark ≡ 122 → ⊥) → (mark ≡ 119 → ⊥) → (mark ≡ 120 → ⊥) → (mark ≡ 112 → ⊥) → (mark ≡ 99 → ⊥) → (mark ≡ 118 → ⊥) → (mark ≡ 102 → ⊥)

@@ -1,7 +1,7 @@
 -- What the private functions of a step promise each other.
 -- Assumes nothing.
 use Rattle.std.specs.Prelude.{ℕ, true, [], ◌∷◌, ◌≡◌, eqb, set}
-use Rattle.forms.specs.Choice.{if◌then◌else◌, any_of}
+use Rattle.forms.specs.Choice.{if◌then◌otherwise◌, any_of}
 use Rattle.band.specs.declared.Mean.{Mean}
 use Rattle.rules.specs.Stock.{Trading, no_trades, mean_in}
 use Rattle.rules.specs.States.{look, no_quotes}
@@ -33,21 +33,21 @@ quotes_told q (X time participant price) = no_quotes
 
 -- the quotes after a moment: z and c leave none
 unfoldable pub quotes_at : ℕ → Quotes → Quotes
-quotes_at mark q = if any_of (eqb mark mark_z ∷ eqb mark mark_c ∷ []) then no_quotes else q
+quotes_at mark q = if any_of (eqb mark mark_z ∷ eqb mark mark_c ∷ []) then no_quotes otherwise q
 
 -- ------------------------------------------------------------------ a step, before the quotes are looked at
 
 -- the stock after a turn: its quotes are looked at where the turn says so
 unfoldable pub turned_to : Turn → Quotes → Stock
-turned_to t q = if t.looks then look (stock_of t.kept q) else stock_of t.kept q
+turned_to t q = if t.looks then look (stock_of t.kept q) otherwise stock_of t.kept q
 
 -- the stock after a turn that may also end Limit
 unfoldable pub left_to : Turn → Figures → Quotes → Stock
-left_to t f q = if t.looks then quote_rules f (stock_of t.kept q) else stock_of t.kept q
+left_to t f q = if t.looks then quote_rules f (stock_of t.kept q) otherwise stock_of t.kept q
 
 -- the reference's price once Limit has ended: the mean, where there is a trade
 abbrev pub left_price : Figures → Mean → Mean
-left_price f price = if no_trades f then price else mean_in f
+left_price f price = if no_trades f then price otherwise mean_in f
 
 -- the turn t does to the stock what the rule does, whatever the quotes are, and looks at the quotes in Trading alone; band still has room for the
 -- reference

@@ -1,6 +1,8 @@
 // What each message and each moment does to a stock, and what the stock then shows. Of the window it uses only the
 // figures. No public function has a `requires`: figures whose mean band has no room for count as no trade, and such a
 // reference as none.
+#![tactic(auto)]
+
 ghost use Rattle.std.specs.Prelude.{◌≡◌};
 ghost use Rattle.rules.specs.Stock.{at_time};
 ghost use Rattle.rules.specs.Moments.{effect};
@@ -15,7 +17,7 @@ mod rule;
 mod set;
 
 // A stock after a step, and what it shows.
-#[derive(Drop)]
+#[derive(Clone, Copy)]
 pub struct After {
     pub kept: Kept,
     pub quotes: Quotes,

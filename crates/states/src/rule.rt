@@ -4,9 +4,9 @@ ghost use Rattle.std.specs.Prelude.{◌≡◌, true, false};
 ghost use Rattle.band.specs.Band.{price_of};
 ghost use Rattle.band.specs.Words as arithmetic;
 ghost use Rattle.rules.specs.Stock.{Trading, in_state, refer_to, mean_in};
-ghost use Rattle.rules.specs.States.{begin_trading_lem, test, begin_pause_lem};
+ghost use Rattle.rules.specs.States.{begin_trading, test, begin_pause};
 ghost use Rattle.rules.specs.Messages.{trade_rules};
-ghost use Rattle.rules.specs.Moments.{first_five_lem, effect};
+ghost use Rattle.rules.specs.Moments.{first_five, effect};
 ghost use Rattle.quotes.specs.Parts.{kept_of, bare, Room};
 ghost use Rattle.states.specs.After.{Fits, fit, effect_at};
 ghost use Rattle.states.specs.Turns.{quotes_told, quotes_at, turned_to, left_to, left_price, Turns, Ends};
@@ -20,7 +20,7 @@ use rules::{
 };
 
 // The stock after a step, before the look at its quotes, and whether that look follows.
-#[derive(Drop)]
+#[derive(Clone, Copy)]
 pub struct Turn {
     pub kept: Kept,
     pub looks: bool,
@@ -83,7 +83,7 @@ fn looking(k: Kept) -> Turn
 // An entry into Trading.
 fn begin_trading(price: Mean, k: Kept) -> Turn
     requires { arithmetic.Fits price }
-    ensures { Turns (begin_trading_lem price) k result }
+    ensures { Turns (begin_trading price) k result }
 {
     looking(set::trading(price, k))
 }
@@ -125,7 +125,7 @@ fn test(f: Figures, k: Kept) -> Turn
 // Starts a pause now.
 fn begin_pause(k: Kept) -> Turn
     requires { Room k }
-    ensures { Turns begin_pause_lem k result }
+    ensures { Turns begin_pause k result }
 {
     let end = k.end as u64;
     let clock = k.course.clock as u64;
@@ -168,7 +168,7 @@ pub(crate) fn message(m: Message, f: Figures, k: Kept) -> Turn
 // The moment f.
 fn first_five(f: Figures, k: Kept) -> Turn
     requires { Fits f × Room k }
-    ensures { Turns (first_five_lem f) k result }
+    ensures { Turns (first_five f) k result }
 {
     let n = set::not_early(k);
     if f.count == 0 {

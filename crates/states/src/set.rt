@@ -1,6 +1,6 @@
 // Setters for the parts of a stock.
 ghost use Rattle.std.specs.Prelude.{◌≡◌};
-ghost use Rattle.rules.specs.Stock.{Trading, with_course_lem, with_reference_lem, at_time, in_state, refer_to, hold_ended, not_early, enter_limit, enter_pause};
+ghost use Rattle.rules.specs.Stock.{Trading, with_course, with_reference, at_time, in_state, refer_to, hold_ended, not_early, enter_limit, enter_pause};
 ghost use Rattle.rules.specs.States.{no_quotes};
 ghost use Rattle.quotes.specs.Parts.{kept_of, bare, Room, fitted};
 ghost use Rattle.states.specs.Turns.{with_quote, quotes_told, quotes_at};
@@ -12,7 +12,7 @@ use rules::{Course, LAST_PARTICIPANT, LIMIT, MARK_C, MARK_Z, Message, Quotes, Re
 // Sets the course. Setters write a new course field by field: to copy a struct and read it back right after
 // changing it stalls the processor.
 fn with_course(course: Course, k: Kept) -> Kept
-    ensures { result ≡ kept_of (with_course_lem course (bare k)) }
+    ensures { result ≡ kept_of (with_course course (bare k)) }
 {
     let setup = k.setup;
     let reference = k.reference;
@@ -101,7 +101,7 @@ pub(crate) fn not_early(k: Kept) -> Kept
 
 // Sets the reference.
 fn with_reference(reference: Reference, k: Kept) -> Kept
-    ensures { result ≡ kept_of (with_reference_lem reference (bare k)) }
+    ensures { result ≡ kept_of (with_reference reference (bare k)) }
 {
     let setup = k.setup;
     let course = k.course;

@@ -10,7 +10,7 @@ use native.Mathlib.Omega.{arith}
 use borrow.Author.Tests.{eq-eqb, ne_eqb, le-leb, ltb-false, leb-false, leb-true, eqb-true, not-true}
 use lib.Dec.{eqb}
 use lib.ListN.{length, length-append, length-map}
-use Rattle.forms.specs.Choice.{if◌then◌else◌, all_of, any_of}
+use Rattle.forms.specs.Choice.{if◌then◌otherwise◌, all_of, any_of}
 use Rattle.forms.proofs.Choice.{if_true, if_false, if_arms, all_head, all_tail, all_yes, all_empty, any_head, any_tail}
 use Rattle.forms.specs.Checks.{first}
 use Rattle.forms.proofs.Checks.{beyond}
@@ -85,7 +85,7 @@ room (X time participant price) h e = omega arith
 -- nor after a moment
 no_more : (m : Moment) (w : List Trade) → length (window_after m w) ≤ length w
 unfolding window_after
-no_more m w = if_arms (λ l. length l ≤ length w) _ {x = staying m.time w} {y = if any_of (eqb m.mark 122 ∷ eqb m.mark 99 ∷ []) then [] else w}
+no_more m w = if_arms (λ l. length l ≤ length w) _ {x = staying m.time w} {y = if any_of (eqb m.mark 122 ∷ eqb m.mark 99 ∷ []) then [] otherwise w}
     (λ _. fewer m.time w) (λ _. if_arms (λ l. length l ≤ length w) _ {x = []} {y = w} (λ _. omega arith) (λ _. omega arith))
 
 pub fired_few : (h : Whole) → rubbish h ≡ false → length (fire h).window ≤ 512
@@ -153,12 +153,12 @@ outcome_is a a' x y e f = rw (e, f)
 
 -- beside 1 there are zeros
 one_zeros : (s : Stock) → answer 1 s ≡ zeros 1
-unfolding answer any_of if◌then◌else◌
+unfolding answer any_of if◌then◌otherwise◌
 one_zeros s = refl
 
 -- a number with what is shown of a stock that a step left
 answer_is : (step : After) (s : Stock) (a : Answer) → step ≡ after_of s → a ≡ answer_by 0 step.kept step.shown → a ≡ answer 0 s
-unfolding answer any_of if◌then◌else◌
+unfolding answer any_of if◌then◌otherwise◌
 answer_is step s a e f = rw (f, e)
 
 -- for a reference in range band has room
@@ -262,7 +262,7 @@ module _ (r : Record) (ts ps : List ℕ) (p : Kept) (ep : p ≡ kept_of r.stock)
       unfolding telling counted.tell_answer counted.after_telling
       told_refused a z ea = go (shaped b) refl
         where
-          is : n ≡ (if shaped b then counted.tells m (view b) else 1)
+          is : n ≡ (if shaped b then counted.tells m (view b) otherwise 1)
           is = own_number ∙ message_number_is b g k m
 
           go : (x : Bool) → shaped b ≡ x → Tells m b (record { answer = a; next = b.kept }) b.times b.prices
@@ -335,7 +335,7 @@ module _ (r : Record) (ts ps : List ℕ) (p : Kept) (ep : p ≡ kept_of r.stock)
       unfolding settling counted.settle_answer
       settled_refused a given z ea eg = go (shaped b) refl
         where
-          is : n ≡ (if shaped b then counted.settles time (view b) else 1)
+          is : n ≡ (if shaped b then counted.settles time (view b) otherwise 1)
           is = own_settling ∙ settle_number_is b g k time
 
           go : (x : Bool) → shaped b ≡ x

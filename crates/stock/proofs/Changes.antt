@@ -9,7 +9,7 @@ use native.Mathlib.Omega.{arith}
 use borrow.Author.Tests.{eq-eqb, ne_eqb, leb-true, eqb-true}
 use lib.Dec.{eqb}
 use lib.ListN.{length, drop, length-drop}
-use Rattle.forms.specs.Choice.{if◌then◌else◌, any_of}
+use Rattle.forms.specs.Choice.{if◌then◌otherwise◌, any_of}
 use Rattle.forms.proofs.Choice.{if_true, if_false, all_head, all_tail}
 use Rattle.rules.specs.Stock.{Trade, Whole, figures_of, total, oldest, at_time}
 use Rattle.rules.specs.Moments.{effect, window_after, come}
@@ -47,7 +47,7 @@ by_message (X time participant price) h = refl
 
 pub by_moment : (m : Moment) (count : ℕ) (ts ps : List ℕ) → count ≤ length ts
     → changed (change_at m.mark m.time count ts) (trades count ts ps) ≡ window_after m (trades count ts ps)
-unfolding changed change_at window_after if◌then◌else◌ any_of
+unfolding changed change_at window_after if◌then◌otherwise◌ any_of
 by_moment m count ts ps h = go (eqb m.mark 118) (eqb m.mark 122) (eqb m.mark 99) refl refl refl
   where
     go : (v z c : Bool) → eqb m.mark 118 ≡ v → eqb m.mark 122 ≡ z → eqb m.mark 99 ≡ c

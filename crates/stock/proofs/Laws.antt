@@ -9,7 +9,7 @@ use native.Mathlib.Omega.{arith}
 use borrow.Author.Tests.{lt-ltb, le-ltb, eq-eqb, ne_eqb, eqb-true}
 use lib.Dec.{eqb}
 use lib.ListN.{length, length-append, length-map, length-replicate, length-drop}
-use Rattle.forms.specs.Choice.{if◌then◌else◌}
+use Rattle.forms.specs.Choice.{if◌then◌otherwise◌}
 use Rattle.forms.proofs.Choice.{if_true, if_false, if_arms, all_head, all_tail, all_yes, all_empty}
 use Rattle.forms.proofs.Promises.{agree}
 use Rattle.rules.specs.Stock.{Trade, state_of}
@@ -29,7 +29,7 @@ use Rattle.window.specs.Places.{laid}
 use Rattle.window.proofs.Laws as window
 use Rattle.window.proofs.Window.{length_trades}
 use Rattle.stock.proofs.Calls.{held_few, room, fired_few}
-use Rattle.stock.specs.View.{Bytes, bytes, view, lay, in_shape, shaped, Outcome, telling, settling, reading, coming, totalling}
+use Rattle.stock.specs.View.{Bytes, view, lay, in_shape, shaped, Outcome, telling, settling, reading, coming, totalling}
 use Rattle.stock.specs.Laws.{Left, NoNoticeIs, BytesAre, ShapedIs, ViewIs, ReadBack, ToldByTheRules, SettledByTheRules, ReadByTheRules, NextByTheRules, TotalsByTheRules, ToldOne, SettledOne, ToldRefused, SettledRefused, ToldInShape, SettledInShape, Unwritten, ToldUnused, SettledUnused, Laws}
 
 bytes_are : BytesAre
@@ -85,16 +85,16 @@ same_unwritten b = (stays_unwritten b.kept.count b.times, stays_unwritten b.kept
 
 -- of a stock that means `h` once the number is 0: the answer, or `one` where the parts have not 512 places
 module _ {A : Type 0} (b : Bytes) (h : Counted) (n : ℕ) (given one : A) (o : Outcome A)
-    (e : o ≡ (if shaped b then record { answer = given; bytes = if eqb n 0 then lay h b else b } else record { answer = one; bytes = b })) where
-  all_of_it : shaped b ≡ true → o ≡ record { answer = given; bytes = if eqb n 0 then lay h b else b }
+    (e : o ≡ (if shaped b then record { answer = given; bytes = if eqb n 0 then lay h b otherwise b } otherwise record { answer = one; bytes = b })) where
+  all_of_it : shaped b ≡ true → o ≡ record { answer = given; bytes = if eqb n 0 then lay h b otherwise b }
   all_of_it q = e ∙ simp (q, if_true)
 
-  by_the_rules : shaped b ≡ true → (o.answer ≡ given) × (view o.bytes ≡ (if eqb n 0 then h else view b))
+  by_the_rules : shaped b ≡ true → (o.answer ≡ given) × (view o.bytes ≡ (if eqb n 0 then h otherwise view b))
   by_the_rules q =
       let all = all_of_it q in
       (ap (λ (o : Outcome A). o.answer) all, ap (λ (o : Outcome A). view o.bytes) all ∙ go (eqb n 0) refl)
     where
-      go : (x : Bool) → eqb n 0 ≡ x → view (if eqb n 0 then lay h b else b) ≡ (if eqb n 0 then h else view b)
+      go : (x : Bool) → eqb n 0 ≡ x → view (if eqb n 0 then lay h b otherwise b) ≡ (if eqb n 0 then h otherwise view b)
       go true z = simp (z, if_true) (read_back h b)
       go false z = simp (z, if_false)
 
@@ -112,7 +112,7 @@ module _ {A : Type 0} (b : Bytes) (h : Counted) (n : ℕ) (given one : A) (o : O
       go false q = ap (λ (o : Outcome A). o.bytes) (gets_one q)
 
   unwritten : Both b o.bytes
-  unwritten = subst (λ (o : Outcome A). Both b o.bytes) (sym e) (if_arms (λ (o : Outcome A). Both b o.bytes) (shaped b) {x = record { answer = given; bytes = if eqb n 0 then lay h b else b }} {y = record { answer = one; bytes = b }}
+  unwritten = subst (λ (o : Outcome A). Both b o.bytes) (sym e) (if_arms (λ (o : Outcome A). Both b o.bytes) (shaped b) {x = record { answer = given; bytes = if eqb n 0 then lay h b otherwise b }} {y = record { answer = one; bytes = b }}
       (λ _. if_arms (λ x. Both b x) (eqb n 0) {x = lay h b} {y = b} (λ _. lay_unwritten h b) (λ _. same_unwritten b)) (λ _. same_unwritten b))
 
   -- the places stay as many where there is room for what is laid

@@ -7,7 +7,7 @@ use mathlib.Core.Path.{◌≡◌, refl, sym, ap, ◌∙◌}
 use native.Mathlib.Omega.{arith}
 use borrow.Author.Tests.{lt-ltb, le-ltb, leb-true, leb-false}
 use lib.Dec.{leb, ltb}
-use Rattle.forms.specs.Choice.{if◌then◌else◌, all_of, any_of}
+use Rattle.forms.specs.Choice.{if◌then◌otherwise◌, all_of, any_of}
 use Rattle.forms.specs.Checks.{first}
 use Rattle.forms.proofs.Bools.{joined}
 use Rattle.forms.proofs.Choice.{if_true, if_false}
@@ -45,7 +45,7 @@ over n = go (leb n 512) refl
 judged : (a b c t k p q : Bool) → (all_of (all_of (a ∷ b ∷ c ∷ []) ∷ not t ∷ []) ≡ true → p ≡ q)
     → (all_of (all_of (a ∷ b ∷ c ∷ []) ∷ not t ∷ []) && not (any_of (k ∷ p ∷ [])))
     ≡ all_of (all_of (a ∷ b ∷ []) ∷ not (any_of (k ∷ not c ∷ t ∷ q ∷ [])) ∷ [])
-unfolding all_of any_of if◌then◌else◌
+unfolding all_of any_of if◌then◌otherwise◌
 judged false b c t k p q e = refl
 judged true false c t k p q e = refl
 judged true true false t true p q e = refl
@@ -65,7 +65,7 @@ module _ (wrong : Bool) (s : Stock) (count : ℕ) (ts ps : List ℕ) (v : Survey
   surveyed = all_of (whole count ts ps ∷ not (bad_trades (clock_of s) w) ∷ [])
 
   is_sound : v.sound ≡ surveyed
-  unfolding surveyed w survey_of if◌then◌else◌
+  unfolding surveyed w survey_of if◌then◌otherwise◌
   is_sound = rw ev (go surveyed refl)
     where
       go : (b : Bool) → surveyed ≡ b → (survey_of (clock_of s) count ts ps).sound ≡ surveyed
@@ -110,8 +110,8 @@ SeenOf b g = Seen (wrong (view b)) b.kept.stock b.kept.count b.times b.prices g
 
 -- a call on a stock of the shape is answered 1 where its totals are wrong or it is rubbish, and by the further checks where not
 by_sight : (shape rub wrong : Bool) (n : ℕ)
-    → (if all_of (shape ∷ not rub ∷ not wrong ∷ []) then n else 1) ≡ (if shape then (if wrong then 1 else (if rub then 1 else n)) else 1)
-unfolding all_of if◌then◌else◌
+    → (if all_of (shape ∷ not rub ∷ not wrong ∷ []) then n otherwise 1) ≡ (if shape then (if wrong then 1 otherwise (if rub then 1 otherwise n)) otherwise 1)
+unfolding all_of if◌then◌otherwise◌
 by_sight false rub wrong n = refl
 by_sight true true true n = refl
 by_sight true true false n = refl
@@ -120,23 +120,23 @@ by_sight true false false n = refl
 
 module _ (b : Bytes) (g : Sight) (k : SeenOf b g) where
   seen_number : (n n' : ℕ) → (g.sound ≡ true → n ≡ n')
-      → (if g.sound then n else 1) ≡ (if shaped b then (if wrong (view b) then 1 else (if rubbish (view b).whole then 1 else n')) else 1)
-  seen_number n n' e = go g.sound refl ∙ ap (λ s. if s then n' else 1) k.sound ∙ by_sight (shaped b) (rubbish (view b).whole) (wrong (view b)) n'
+      → (if g.sound then n otherwise 1) ≡ (if shaped b then (if wrong (view b) then 1 otherwise (if rubbish (view b).whole then 1 otherwise n')) otherwise 1)
+  seen_number n n' e = go g.sound refl ∙ ap (λ s. if s then n' otherwise 1) k.sound ∙ by_sight (shaped b) (rubbish (view b).whole) (wrong (view b)) n'
     where
-      go : (s : Bool) → g.sound ≡ s → (if g.sound then n else 1) ≡ (if g.sound then n' else 1)
+      go : (s : Bool) → g.sound ≡ s → (if g.sound then n otherwise 1) ≡ (if g.sound then n' otherwise 1)
       go true q = simp (q, if_true) (e q)
       go false q = simp (q, if_false)
 
-  pub message_number_is : (m : Message) → message_number m g b.kept.count b.kept.stock ≡ (if shaped b then counted.tells m (view b) else 1)
+  pub message_number_is : (m : Message) → message_number m g b.kept.count b.kept.stock ≡ (if shaped b then counted.tells m (view b) otherwise 1)
   unfolding message_number counted.or_wrong tells checks first
   message_number_is m = seen_number _ _ (λ q. simp (k.earliest q, length_trades))
 
-  pub settle_number_is : (time : ℕ) → settle_number time g b.kept.stock ≡ (if shaped b then counted.settles time (view b) else 1)
+  pub settle_number_is : (time : ℕ) → settle_number time g b.kept.stock ≡ (if shaped b then counted.settles time (view b) otherwise 1)
   unfolding settle_number counted.or_wrong settles settle_checks first
   settle_number_is time = seen_number _ _ (λ q. simp (k.earliest q))
 
   -- where another number than 1 is given the stock is sound
-  pub sound_unless_1 : (n : ℕ) → ¬ ((if g.sound then n else 1) ≡ 1) → g.sound ≡ true
+  pub sound_unless_1 : (n : ℕ) → ¬ ((if g.sound then n otherwise 1) ≡ 1) → g.sound ≡ true
   sound_unless_1 n e = go g.sound refl
     where
       go : (s : Bool) → g.sound ≡ s → g.sound ≡ true
@@ -144,5 +144,5 @@ module _ (b : Bytes) (g : Sight) (k : SeenOf b g) where
       go false q = absurd (e (simp (q, if_false)))
 
   -- so it is where 0 is given
-  pub sound_where_done : (n : ℕ) → (if g.sound then n else 1) ≡ 0 → g.sound ≡ true
+  pub sound_where_done : (n : ℕ) → (if g.sound then n otherwise 1) ≡ 0 → g.sound ≡ true
   sound_where_done n e = sound_unless_1 n (λ o. omega arith)

@@ -1,7 +1,7 @@
 -- What the private functions of a call promise each other.
 -- Assumes nothing.
 use Rattle.std.specs.Prelude.{ℕ, ◌+◌, ◌^◌, ◌<◌, Bool, true, false, not, List, [], ◌∷◌, ◌≡◌, eqb, length}
-use Rattle.forms.specs.Choice.{if◌then◌else◌, all_of, any_of}
+use Rattle.forms.specs.Choice.{if◌then◌otherwise◌, all_of, any_of}
 use Rattle.forms.specs.Checks.{first}
 use Rattle.rules.specs.Stock.{Whole, figures_of}
 use Rattle.rules.specs.Moments.{mark_z, mark_c, mark_v, next_of}
@@ -40,11 +40,11 @@ pub record Seen (wrong : Bool) (s : Stock) (count : ℕ) (times prices : List �
 
 -- a message's number from what was seen
 unfoldable pub message_number : Message → Sight → ℕ → Stock → ℕ
-message_number m g count s = if g.sound then first (message_checks m count g.earliest s) else 1
+message_number m g count s = if g.sound then first (message_checks m count g.earliest s) otherwise 1
 
 -- settling's number from what was seen
 unfoldable pub settle_number : ℕ → Sight → Stock → ℕ
-settle_number time g s = if g.sound then first (time_checks time g.earliest s) else 1
+settle_number time g s = if g.sound then first (time_checks time g.earliest s) otherwise 1
 
 -- the printed reference of a stock
 abbrev pub printed_in : Kept → ℕ
@@ -73,8 +73,8 @@ change_of (X time participant price) = Empty
 -- what a moment does to the window, by its mark and its time
 unfoldable pub change_at : ℕ → ℕ → ℕ → List ℕ → Change
 change_at mark time count times =
-    if eqb mark mark_v then Leave (gone_of time count times) else
-    if any_of (eqb mark mark_z ∷ eqb mark mark_c ∷ []) then Empty else
+    if eqb mark mark_v then Leave (gone_of time count times) otherwise
+    if any_of (eqb mark mark_z ∷ eqb mark mark_c ∷ []) then Empty otherwise
     Stay
 
 -- these are the figures of the window that the places hold, and no trade of it is bad
@@ -86,7 +86,7 @@ pub record Held (f : Figures) (times prices : List ℕ) : Type 0 where
 -- the figures with one more trade
 unfoldable pub with_trade : Figures → ℕ → ℕ → Figures
 with_trade f time price =
-    record { count = f.count + 1; oldest = if eqb f.count 0 then time else f.oldest; sum = f.sum + price }
+    record { count = f.count + 1; oldest = if eqb f.count 0 then time otherwise f.oldest; sum = f.sum + price }
 
 -- f are the figures of the changed window, and band has room for their mean
 pub record Changed (change : Change) (count : ℕ) (times prices : List ℕ) (f : Figures) : Type 0 where

@@ -1,7 +1,7 @@
 -- One stock in memory, what it means in the rules, and what a call promises (document 01, "What the book holds", "How much a promise says").
 -- Assumes nothing.
 use Rattle.std.specs.Prelude.{ℕ, Bool, List, [], ◌∷◌, map, ◌≡◌, eqb, length}
-use Rattle.forms.specs.Choice.{if◌then◌else◌, all_of}
+use Rattle.forms.specs.Choice.{if◌then◌otherwise◌, all_of}
 use Rattle.rules.specs.Stock.{Whole}
 use Rattle.rules.specs.Numbers.{zeros, no_notice, none_coming}
 use Rattle.rules.specs.Counted.{Counted, tells, settles, after, fire, tell_answer, settle_answer, read_answer, next_answer, no_summary, totals_answer}
@@ -62,15 +62,15 @@ pub record Outcome (A : Type 0) : Type 0 where
 -- every byte
 unfoldable pub telling : Message → Bytes → Outcome Answer
 telling m b =
-    if shaped b then record { answer = tell_answer m (view b); bytes = if eqb (tells m (view b)) 0 then lay (after m (view b)) b else b }
-    else record { answer = zeros 1; bytes = b }
+    if shaped b then record { answer = tell_answer m (view b); bytes = if eqb (tells m (view b)) 0 then lay (after m (view b)) b otherwise b }
+    otherwise record { answer = zeros 1; bytes = b }
 
 -- settling to a time: parts without 512 places get 1; a moment that is done leaves the layout of the stock that the rules make, a refusal leaves
 -- every byte
 unfoldable pub settling : ℕ → Bytes → Outcome Notice
 settling time b =
-    if shaped b then record { answer = settle_answer time (view b); bytes = if eqb (settles time (view b)) 0 then lay (fire (view b)) b else b }
-    else record { answer = no_notice 1; bytes = b }
+    if shaped b then record { answer = settle_answer time (view b); bytes = if eqb (settles time (view b)) 0 then lay (fire (view b)) b otherwise b }
+    otherwise record { answer = no_notice 1; bytes = b }
 
 -- the promise of telling: the answer, the next record and all places at exit are that outcome
 abbrev pub Tells : Message → Bytes → Told → List ℕ → List ℕ → Type 0
@@ -84,12 +84,12 @@ Settles time b r times prices = ◌≡◌ {A = Outcome Notice} (record { answer 
 
 -- reading: parts without 512 places get 1, others get the rules' answer
 unfoldable pub reading : Bytes → Answer
-reading b = if shaped b then read_answer (view b) else zeros 1
+reading b = if shaped b then read_answer (view b) otherwise zeros 1
 
 -- asking what comes next: parts without 512 places get 1 with no moment, others get the rules' answer
 unfoldable pub coming : Bytes → Upcoming
-coming b = if shaped b then next_answer (view b) else none_coming 1
+coming b = if shaped b then next_answer (view b) otherwise none_coming 1
 
 -- asking for the day totals: parts without 512 places get 1 with every total 0, others get the rules' answer
 unfoldable pub totalling : Bytes → Summary
-totalling b = if shaped b then totals_answer (view b) else no_summary 1
+totalling b = if shaped b then totals_answer (view b) otherwise no_summary 1

@@ -2,6 +2,8 @@
 // held trades; it computes a step without writing a place, and writes the places at the end. No public function has
 // a `requires`: for any record, parts of any length and any numbers the promise gives the answer, the next record
 // and every place.
+#![tactic(auto)]
+
 ghost use Rattle.std.specs.Prelude.{◌≡◌};
 ghost use Rattle.rules.specs.Numbers.{zeros, no_notice, none_coming};
 ghost use Rattle.rules.specs.Counted.{no_summary};
@@ -20,7 +22,7 @@ mod steps;
 // A stock's record: the stock, how many trades its places hold, and its day totals. The count has 64 bits, so that
 // there is no padding behind it.
 #[repr(C)]
-#[derive(Drop)]
+#[derive(Clone, Copy)]
 pub struct Record {
     pub stock: Stock,
     pub count: u64,
@@ -28,14 +30,14 @@ pub struct Record {
 }
 
 // A message's answer, with the next record.
-#[derive(Drop)]
+#[derive(Clone, Copy)]
 pub struct Told {
     pub answer: Answer,
     pub next: Record,
 }
 
 // Settling's notice, with the next record.
-#[derive(Drop)]
+#[derive(Clone, Copy)]
 pub struct Settled {
     pub notice: Notice,
     pub next: Record,

@@ -7,7 +7,7 @@ use quotes::Kept;
 use rules::{Figures, Message, Moment, Quotes, RUBBISH};
 
 // What a call has found of its stock; figures and moment are valid only where the stock is sound.
-#[derive(Drop)]
+#[derive(Clone, Copy)]
 pub struct Sight {
     pub sound: bool,
     pub figures: Figures,

@@ -13,7 +13,7 @@ use window::Change;
 
 // The stock with what it shows, how many trades it then holds, and the change that is still to be written to its
 // places.
-#[derive(Drop)]
+#[derive(Clone, Copy)]
 pub struct Step {
     pub after: After,
     pub count: u64,

@@ -1,33 +1,35 @@
 // Plays the day of document 01 twice, through the methods of one stock's record and through the book's functions
 // over a lent record, and prints the lines of document 01 each time; the stock column is 0.
+#![tactic(auto)]
+
 use rules::{Answer, DONE, Message, PLACES};
+use std::io;
 use stock::{Record, Settled, Told};
 
 mod lend;
 
-fn print_number(n: u64) {
-    io::write_all(1, b" ");
-    io::print_decimal(1, n);
+fn print_number(rt: &impl Print, n: u64) -> io::Result<()> {
+    print!(rt; " {n}")
 }
 
 // Prints one line in the format of the day program.
-fn print_line(time: u32, letter: u8, a: Answer) {
+fn print_line(rt: &impl Print, time: u32, letter: u8, a: Answer) -> io::Result<()> {
     let bid = a.best.bid;
     let offer = a.best.offer;
     let text = [b' ', letter];
-    io::write_all(1, b"0");
-    print_number(time as u64);
-    io::write_all(1, &text);
-    print_number(a.number as u64);
-    print_number(a.state as u64);
-    print_number(a.reference as u64);
-    print_number(a.lower as u64);
-    print_number(a.upper as u64);
-    print_number(bid.price as u64);
-    print_number(bid.flag as u64);
-    print_number(offer.price as u64);
-    print_number(offer.flag as u64);
-    io::write_all(1, b"\n");
+    rt.write_all(b"0")?;
+    print_number(rt, time as u64)?;
+    rt.write_all(&text)?;
+    print_number(rt, a.number as u64)?;
+    print_number(rt, a.state as u64)?;
+    print_number(rt, a.reference as u64)?;
+    print_number(rt, a.lower as u64)?;
+    print_number(rt, a.upper as u64)?;
+    print_number(rt, bid.price as u64)?;
+    print_number(rt, bid.flag as u64)?;
+    print_number(rt, offer.price as u64)?;
+    print_number(rt, offer.flag as u64)?;
+    rt.write_all(b"\n")
 }
 
 // Settles the stock to a time, by the method of its record or, where it is lent, by the book.
@@ -47,23 +49,31 @@ fn tell(r: Record, times: &mut [u32], prices: &mut [u32], m: Message, lent: bool
 }
 
 // Settles to a time, and prints each moment.
-fn settled(r: Record, times: &mut [u32], prices: &mut [u32], time: u32, lent: bool) -> Record {
+fn settled(
+    rt: &impl Print,
+    r: Record,
+    times: &mut [u32],
+    prices: &mut [u32],
+    time: u32,
+    lent: bool,
+) -> io::Result<Record> {
     let mut next = r;
     for i in 0..2_000u32 {
         let done = settle(next, times, prices, time, lent);
         let notice = done.notice;
         let answer = notice.answer;
         if answer.number != DONE {
-            return done.next;
+            return Ok(done.next);
         }
-        print_line(notice.time, (notice.mark % 256) as u8, answer);
+        print_line(rt, notice.time, (notice.mark % 256) as u8, answer)?;
         next = done.next;
     }
-    next
+    Ok(next)
 }
 
 // Settles to a message's time, tells the message, and prints its answer.
 fn told(
+    rt: &impl Print,
     r: Record,
     times: &mut [u32],
     prices: &mut [u32],
@@ -71,80 +81,99 @@ fn told(
     time: u32,
     m: Message,
     lent: bool,
-) -> Record {
-    let before = settled(r, times, prices, time, lent);
+) -> io::Result<Record> {
+    let before = settled(rt, r, times, prices, time, lent)?;
     let done = tell(before, times, prices, m, lent);
-    print_line(time, letter, done.answer);
-    done.next
+    print_line(rt, time, letter, done.answer)?;
+    Ok(done.next)
 }
 
 // An opening, and a quote inside the bands.
-fn opened(r: Record, times: &mut [u32], prices: &mut [u32], lent: bool) -> Record {
+fn opened(
+    rt: &impl Print,
+    r: Record,
+    times: &mut [u32],
+    prices: &mut [u32],
+    lent: bool,
+) -> io::Result<Record> {
     let m = Message::Opening {
         time: 1_000,
         participant: 2,
         price: 115_000,
     };
-    let r = told(r, times, prices, b'O', 1_000, m, lent);
+    let r = told(rt, r, times, prices, b'O', 1_000, m, lent)?;
     let m = Message::Quote {
         time: 2_000,
         participant: 5,
         bid: 114_900,
         offer: 115_100,
     };
-    told(r, times, prices, b'Q', 2_000, m, lent)
+    told(rt, r, times, prices, b'Q', 2_000, m, lent)
 }
 
 // An offer at the lower band, and Limit once the bid is gone.
-fn limited(r: Record, times: &mut [u32], prices: &mut [u32], lent: bool) -> Record {
+fn limited(
+    rt: &impl Print,
+    r: Record,
+    times: &mut [u32],
+    prices: &mut [u32],
+    lent: bool,
+) -> io::Result<Record> {
     let m = Message::Quote {
         time: 3_000,
         participant: 7,
         bid: 0,
         offer: 92_000,
     };
-    let r = told(r, times, prices, b'Q', 3_000, m, lent);
+    let r = told(rt, r, times, prices, b'Q', 3_000, m, lent)?;
     let m = Message::Quote {
         time: 4_000,
         participant: 5,
         bid: 0,
         offer: 115_100,
     };
-    told(r, times, prices, b'Q', 4_000, m, lent)
+    told(rt, r, times, prices, b'Q', 4_000, m, lent)
 }
 
 // A trade in Limit, and the reopening after the pause that it became.
-fn reopened(r: Record, times: &mut [u32], prices: &mut [u32], lent: bool) -> Record {
+fn reopened(
+    rt: &impl Print,
+    r: Record,
+    times: &mut [u32],
+    prices: &mut [u32],
+    lent: bool,
+) -> io::Result<Record> {
     let m = Message::Trade {
         time: 5_000,
         price: 92_000,
     };
-    let r = told(r, times, prices, b'T', 5_000, m, lent);
+    let r = told(rt, r, times, prices, b'T', 5_000, m, lent)?;
     let m = Message::Reopening {
         time: 319_000,
         participant: 2,
         price: 95_000,
     };
-    told(r, times, prices, b'R', 319_000, m, lent)
+    told(rt, r, times, prices, b'R', 319_000, m, lent)
 }
 
 // The day, from its setup on.
-fn day(lent: bool) {
+fn day(rt: &impl Print, lent: bool) -> io::Result<()> {
     let mut t = [0u32; PLACES];
     let mut p = [0u32; PLACES];
     let setups = [2, 1, 2, 115_000];
     let r = calls::started_at(&setups, 23_400_000, 0);
-    let r = opened(r, &mut t, &mut p, lent);
-    let r = limited(r, &mut t, &mut p, lent);
-    let r = reopened(r, &mut t, &mut p, lent);
+    let r = opened(rt, r, &mut t, &mut p, lent)?;
+    let r = limited(rt, r, &mut t, &mut p, lent)?;
+    let r = reopened(rt, r, &mut t, &mut p, lent)?;
     let m = Message::Trade {
         time: 319_500,
         price: 120_000,
     };
-    told(r, &mut t, &mut p, b'T', 319_500, m, lent);
+    told(rt, r, &mut t, &mut p, b'T', 319_500, m, lent)?;
+    Ok(())
 }
 
-fn main() {
-    day(false);
-    day(true);
+fn main(rt: HostRuntime) -> io::Result<()> {
+    day(&rt, false)?;
+    day(&rt, true)
 }

@@ -1,6 +1,8 @@
 // The functions that an engine in another language links (include/sumpheron.h): the version, one for each call on a
 // lent book, and one for each message letter, so that no message has an unknown kind. No function has a `requires`:
 // for any bytes the promise gives the answer and every byte that the call leaves.
+#![tactic(auto)]
+
 ghost use Rattle.std.specs.Prelude.{◌≡◌};
 ghost use Rattle.rules.specs.declared.Message.TheVariants.{Trade, Quote, Opening, Pause, Reopening, Closing};
 ghost use Rattle.book.specs.Lent.{lent, TellsIn, SettlesIn, reading_in, coming_in, totalling_in};

@@ -9,12 +9,11 @@ use native.Mathlib.Omega.{arith}
 use borrow.Author.Tests.{le-leb}
 use lib.ListN.{length, take, replicate, length-append, length-map}
 use lib.Seq.{take_at}
-use Rattle.bytes.specs.Bytes.{index_of, index_after}
-use Rattle.forms.specs.Choice.{if◌then◌else◌, all_of, any_of}
+use Rattle.forms.specs.Choice.{if◌then◌otherwise◌, all_of, any_of}
 use Rattle.forms.specs.Tables.{every}
 use Rattle.forms.proofs.Choice.{all_head, all_tail, all_yes, all_empty}
 use Rattle.forms.proofs.Promises.{agree}
-use Rattle.tape.specs.Lines.{is_digit, further, spelt, is_number, parted, numbers_in, line_of, unread, Reads, to_feed}
+use Rattle.tape.specs.Lines.{is_digit, further, spelt, is_number, parted, numbers_in, line_of, unread, Reads, index_of, to_feed}
 use Rattle.tape.specs.Lines.Reads.{a_line, no_line}
 use Rattle.tape.specs.Printing.{decimal, digits, ahead, printed, printing}
 use Rattle.tape.specs.Scanning.{opened, lengthened, digit, step, place, finished, scanned}
@@ -108,19 +107,19 @@ no_longer text l ws p = rw p.written (omega (arith, words_length ws p.numbers, p
 -- ------------------------------------------------------------------ the computed examples
 
 words_are_right : every right words ≡ true
-unfolding every right is_number is_digit spelt further all_of if◌then◌else◌
+unfolding every right is_number is_digit spelt further all_of if◌then◌otherwise◌
 words_are_right = refl
 
 lines_are_read : AllRead lines
-unfolding scanned finished step opened digit lengthened place numbers_in further any_of if◌then◌else◌
+unfolding scanned finished step opened digit lengthened place numbers_in further any_of if◌then◌otherwise◌
 lines_are_read = (reads _, (reads _, (reads _, (reads _, (reads _, (reads _, (reads _, (reads _, (reads _, (reads _, (reads _, (reads _, (reads _, (reads _, (reads _, (reads _, (reads _, tt)))))))))))))))))
 
 feeds_end_lines : every ends endings ≡ true
-unfolding every ends index_of index_after all_of if◌then◌else◌
+unfolding every ends index_of all_of if◌then◌otherwise◌
 feeds_end_lines = refl
 
 first_line : FirstLine
-unfolding printed ahead parted digits decimal if◌then◌else◌
+unfolding printed ahead parted digits decimal if◌then◌otherwise◌
 first_line = refl
 
 spelt_is : SpeltIs

@@ -10,7 +10,7 @@ use borrow.Author.Tests.{ltb-false, leb-true, leb-false, le-leb, lt-leb, eqb-tru
 use lib.Dec.{leb, ltb, eqb}
 use lib.ListN.{length, get_or, set, drop, replicate, length-append, length-map, length-replicate}
 use lib.Seq.{append_snoc, set_at, set_out}
-use Rattle.forms.specs.Choice.{if◌then◌else◌, all_of, any_of}
+use Rattle.forms.specs.Choice.{if◌then◌otherwise◌, all_of, any_of}
 use Rattle.forms.specs.Tables.{every}
 use Rattle.forms.proofs.Choice.{if_true, if_false, all_head, all_tail, all_leb, all_yes, all_empty, any_head, any_tail, any_not, any_empty, any_here, any_there, if_arms, eq_of_not, eq_not, tests}
 use Rattle.forms.proofs.Loops.{fold_turn}
@@ -80,11 +80,11 @@ stays ns v k c l e =
 -- ------------------------------------------------------------------ one byte more
 
 at_space : (s : Scan) → s.good ≡ true → step s 32 ≡ opened s
-unfolding step if◌then◌else◌
+unfolding step if◌then◌otherwise◌
 at_space s g = rw g
 
 at_digit : (s : Scan) (c : ℕ) → s.good ≡ true → eqb c 32 ≡ false → step s c ≡ digit s c
-unfolding step if◌then◌else◌
+unfolding step if◌then◌otherwise◌
 at_digit s c g e = rw (g, e)
 
 -- both halves of a turn
@@ -110,7 +110,7 @@ digits_on ns v k c l a z h m =
     both (at_digit _ c refl s ∙ if_false _ _ _ b ∙ if_false _ _ _ d) (stays ns v k c l s)
 
 begins : turn begun 32 ≡ midway [] 0 0
-unfolding step opened place any_of if◌then◌else◌
+unfolding step opened place any_of if◌then◌otherwise◌
 begins = refl
 
 -- ------------------------------------------------------------------ a line of numbers is read
@@ -206,8 +206,8 @@ reads_line w ws d l =
 -- ------------------------------------------------------------------ what was read is a line of numbers
 
 -- what is good now was good before
-if_good : (b : Bool) (r s : Scan) → (if b then stuck r else s).good ≡ true → b ≡ false
-unfolding if◌then◌else◌
+if_good : (b : Bool) (r s : Scan) → (if b then stuck r otherwise s).good ≡ true → b ≡ false
+unfolding if◌then◌otherwise◌
 if_good true r s e = absurd (false≢true e)
 if_good false r s e = refl
 
@@ -342,7 +342,7 @@ most_of (row ∷ rows) letter e =
     if_arms (λ n. n ≤ 5) (eqb letter row.letter) (λ q. leb-true _ _ (all_head _ _ e)) (λ q. most_of rows letter (all_tail _ _ e))
 
 pub at_most_five : (letter : ℕ) → numbers_after letter ≤ 5
-unfolding every all_of if◌then◌else◌
+unfolding every all_of if◌then◌otherwise◌
 at_most_five letter = most_of table letter refl
 
 -- as many numbers as are wanted
@@ -380,7 +380,7 @@ scanned_line text letter (w ∷ ws) p =
 
 -- a digit right behind the letter is wrong, and stays so
 still : (s : Scan) (c : ℕ) → s.good ≡ false → (step s c).good ≡ false
-unfolding step if◌then◌else◌
+unfolding step if◌then◌otherwise◌
 still s c e = rw e
 
 stuck_stays : (t : List ℕ) (r : Reading) → r.scan.good ≡ false → (foldl turn r t).scan.good ≡ false
@@ -423,7 +423,7 @@ behind_letter (c ∷ t) g d n =
 
 -- no line begins with the letter that says that there is none
 no_letter : (letter : ℕ) → 0 < numbers_after letter → letter ≡ 0 → ⊥
-unfolding numbers_in if◌then◌else◌
+unfolding numbers_in if◌then◌otherwise◌
 no_letter letter h e = not-suc-le-zero (rw e at h)
 
 -- as many words as numbers were opened

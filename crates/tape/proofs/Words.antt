@@ -9,12 +9,12 @@ use native.Mathlib.Omega.{arith}
 use borrow.Author.Tests.{eqb-true, eq-eqb}
 use lib.Dec.{eqb}
 use lib.ListN.{length, get_or, get_or-append, length-map}
-use Rattle.bytes.specs.Bytes.{index_of, index_after}
+use Rattle.forms.specs.Choice.{if◌then◌otherwise◌}
 use Rattle.forms.specs.Tables.{every}
 use Rattle.forms.specs.Words.{◌or◌, ◌and◌, Gives}
 use Rattle.forms.proofs.Choice.{all_empty}
 use Rattle.forms.proofs.Decides.{Decides, and_more, is_true, one_number, choices, words}
-use Rattle.tape.specs.Lines.{is_digit, spelt, is_number, parted, numbers_after, numbers_in, to_feed}
+use Rattle.tape.specs.Lines.{is_digit, spelt, is_number, parted, numbers_after, numbers_in, index_of, to_feed}
 use Rattle.tape.specs.Printing.{ahead, printed}
 use Rattle.tape.specs.Words.{Every, IsFeed, IsWord, spaced, counts}
 use Rattle.tape.specs.Laws.{FeedIs, LineIs, ReadAs, DigitsAre, PrintedIs}
@@ -22,8 +22,8 @@ use Rattle.tape.proofs.Printing.{digits_low, digits_high}
 
 -- ------------------------------------------------------------------ where a line ends
 
-one_more : (c : ℕ) (text : List ℕ) (k : ℕ) (b : Bool) → eqb c 10 ≡ b → IsFeed text k → IsFeed (c ∷ text) (index_after b k)
-unfolding index_after
+one_more : (c : ℕ) (text : List ℕ) (k : ℕ) (b : Bool) → eqb c 10 ≡ b → IsFeed text k → IsFeed (c ∷ text) (if b then 0 otherwise suc k)
+unfolding if◌then◌otherwise◌
 one_more c text k true e p = ((λ j l. absurd (omega arith)), inr (omega arith, eqb-true c 10 e))
 one_more c text k false e p = (before, ends p.1)
   where

@@ -1,7 +1,7 @@
 -- Words and lines at the edges of what is read and printed, computed (document 01, "The day program").
 -- Assumes nothing.
 use Rattle.std.specs.Prelude.{ℕ, Bool, true, false, not, List, [], ◌∷◌, ◌≡◌, eqb}
-use Rattle.forms.specs.Choice.{if◌then◌else◌, all_of}
+use Rattle.forms.specs.Choice.{if◌then◌otherwise◌, all_of}
 use Rattle.tape.specs.Lines.{is_number, spelt, unread, Reads, to_feed}
 use Rattle.tape.specs.Printing.{printed}
 use Rattle.tape.specs.declared.Line.{Line}
@@ -15,7 +15,7 @@ pub record Word : Type 0 where
   pub value : ℕ
 
 unfoldable pub right : Word → Bool
-right w = if w.number then all_of (is_number w.bytes ∷ eqb (spelt w.bytes) w.value ∷ []) else not (is_number w.bytes)
+right w = if w.number then all_of (is_number w.bytes ∷ eqb (spelt w.bytes) w.value ∷ []) otherwise not (is_number w.bytes)
 
 abbrev number : List ℕ → ℕ → Word
 number bytes value = record { bytes = bytes; number = true; value = value }

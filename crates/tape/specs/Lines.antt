@@ -1,9 +1,8 @@
 -- What a line of the day's input is (document 01, "The day program").
 -- Assumes nothing.
-use Rattle.std.specs.Prelude.{ℕ, ◌+◌, ◌-◌, ◌*◌, ◌<◌, Bool, true, ◌≡◌, leb, eqb, length, replicate}
+use Rattle.std.specs.Prelude.{ℕ, suc, ◌+◌, ◌-◌, ◌*◌, ◌<◌, Bool, true, ◌≡◌, leb, eqb, length, replicate}
 use mathlib.Core.List.{List, [], ◌∷◌, ◌++◌, map, foldl}
-use Rattle.bytes.specs.Bytes.{index_of}
-use Rattle.forms.specs.Choice.{if◌then◌else◌, all_of}
+use Rattle.forms.specs.Choice.{if◌then◌otherwise◌, all_of}
 use Rattle.forms.specs.Tables.{every}
 use Rattle.tape.specs.declared.Line.{Line}
 
@@ -47,7 +46,7 @@ table =
 -- what the row of a letter says, 0 where it has none
 unfoldable pub numbers_in : List Row → ℕ → ℕ
 numbers_in [] letter = 0
-numbers_in (row ∷ rows) letter = if eqb letter row.letter then row.numbers else numbers_in rows letter
+numbers_in (row ∷ rows) letter = if eqb letter row.letter then row.numbers otherwise numbers_in rows letter
 
 -- how many numbers follow a letter, 0 where no line begins with it
 abbrev pub numbers_after : ℕ → ℕ
@@ -74,6 +73,11 @@ unread = record { letter = 0; numbers = replicate 5 0 }
 pub data Reads (text : List ℕ) (r : Line) : Type 0 where
   a_line : (letter : ℕ) (words : List (List ℕ)) → IsLine text letter words → r ≡ line_of letter words → Reads text r
   no_line : ((letter : ℕ) (words : List (List ℕ)) → IsLine text letter words → ⊥) → r ≡ unread → Reads text r
+
+-- how many bytes stand before the first b, all where there is none
+unfoldable pub index_of : ℕ → List ℕ → ℕ
+index_of b [] = 0
+index_of b (c ∷ text) = if eqb c b then 0 otherwise suc (index_of b text)
 
 -- where a line ends: how many bytes stand before the first line feed, the code 10, all where there is none
 abbrev pub to_feed : List ℕ → ℕ

@@ -2,13 +2,13 @@
 -- Assumes nothing.
 use Rattle.std.specs.Prelude.{ℕ, zero, suc, ◌+◌, ◌/◌, ◌%◌, List, [], ◌∷◌, ◌++◌, map, leb, ltb, length}
 use Rattle.std.proofs.lemmas.List.Edits.{sets}
-use Rattle.forms.specs.Choice.{if◌then◌else◌, all_of}
+use Rattle.forms.specs.Choice.{if◌then◌otherwise◌, all_of}
 use Rattle.tape.specs.Lines.{parted}
 
 -- the digits of a number, without leading zeros; the first number says how many digits it has at most
 unfoldable pub decimal : ℕ → ℕ → List ℕ
 decimal zero n = []
-decimal (suc most) n = (if ltb n 10 then [] else decimal most (n / 10)) ++ ((48 + n % 10) ∷ [])
+decimal (suc most) n = (if ltb n 10 then [] otherwise decimal most (n / 10)) ++ ((48 + n % 10) ∷ [])
 
 -- the digits of any 64-bit number
 unfoldable pub digits : ℕ → List ℕ
@@ -36,4 +36,4 @@ pub record Printed : Type 0 where
 unfoldable pub printing : List ℕ → ℕ → ℕ → ℕ → ℕ → List ℕ → Printed
 printing bytes at stock time letter numbers =
     let text = printed stock time letter numbers in
-    if all_of (leb (length numbers) 16 ∷ leb (at + 380) (length bytes) ∷ []) then record { to = at + length text; bytes = sets bytes at text } else record { to = at; bytes = bytes }
+    if all_of (leb (length numbers) 16 ∷ leb (at + 380) (length bytes) ∷ []) then record { to = at + length text; bytes = sets bytes at text } otherwise record { to = at; bytes = bytes }

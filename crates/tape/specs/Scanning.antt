@@ -2,7 +2,7 @@
 -- Assumes nothing.
 use Rattle.std.specs.Prelude.{ℕ, ◌+◌, ◌-◌, true, false, not, leb, ltb, eqb, set, replicate}
 use mathlib.Core.List.{List, [], ◌∷◌, foldl}
-use Rattle.forms.specs.Choice.{if◌then◌else◌, any_of}
+use Rattle.forms.specs.Choice.{if◌then◌otherwise◌, any_of}
 use Rattle.tape.specs.Lines.{further, numbers_after, unread}
 use Rattle.tape.specs.declared.Line.{Line}
 use Rattle.tape.specs.declared.scan.Scan.{Scan}
@@ -16,27 +16,27 @@ stuck s = record { good = false; count = s.count; digits = s.digits; value = s.v
 
 -- a space opens a number
 unfoldable pub opened : Scan → Scan
-opened s = if any_of (eqb s.digits 0 ∷ leb 5 s.count ∷ []) then stuck s else record { good = true; count = s.count + 1; digits = 0; value = 0 }
+opened s = if any_of (eqb s.digits 0 ∷ leb 5 s.count ∷ []) then stuck s otherwise record { good = true; count = s.count + 1; digits = 0; value = 0 }
 
 -- the open number has one more digit, and is then `value`
 unfoldable pub lengthened : Scan → ℕ → Scan
 lengthened s value =
-    if any_of (leb 10 s.digits ∷ ltb 4_294_967_295 value ∷ []) then stuck s else
+    if any_of (leb 10 s.digits ∷ ltb 4_294_967_295 value ∷ []) then stuck s otherwise
     record { good = true; count = s.count; digits = s.digits + 1; value = value }
 
 -- any other byte is a digit
 unfoldable pub digit : Scan → ℕ → Scan
-digit s c = if any_of (ltb c 48 ∷ ltb 57 c ∷ eqb s.count 0 ∷ []) then stuck s else lengthened s (further s.value c)
+digit s c = if any_of (ltb c 48 ∷ ltb 57 c ∷ eqb s.count 0 ∷ []) then stuck s otherwise lengthened s (further s.value c)
 
 -- the scan after the next byte
 unfoldable pub step : Scan → ℕ → Scan
-step s c = if not s.good then stuck s else if eqb c 32 then opened s else digit s c
+step s c = if not s.good then stuck s otherwise if eqb c 32 then opened s otherwise digit s c
 
 -- ------------------------------------------------------------------ all numbers
 
 -- where a byte puts the open number: a space closes it; the sixth place means nowhere
 unfoldable pub place : Scan → ℕ → ℕ
-place s c = if any_of (not (eqb c 32) ∷ eqb s.count 0 ∷ []) then 5 else s.count - 1
+place s c = if any_of (not (eqb c 32) ∷ eqb s.count 0 ∷ []) then 5 otherwise s.count - 1
 
 -- the numbers after a byte
 abbrev pub kept : Reading → ℕ → List ℕ
@@ -53,7 +53,7 @@ turn r c = record { scan = step r.scan c; numbers = kept r c }
 -- the line at its end, which closes a number as a space does, if as many numbers were read as are wanted
 unfoldable pub finished : ℕ → ℕ → Reading → Line
 finished letter want r =
-    if any_of (not r.scan.good ∷ eqb want 0 ∷ not (eqb r.scan.count want) ∷ eqb r.scan.digits 0 ∷ []) then unread else
+    if any_of (not r.scan.good ∷ eqb want 0 ∷ not (eqb r.scan.count want) ∷ eqb r.scan.digits 0 ∷ []) then unread otherwise
     record { letter = letter; numbers = kept r 32 }
 
 -- the line of a whole text

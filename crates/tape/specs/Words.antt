@@ -1,5 +1,5 @@
 -- Lines in words (document 01, "The day program"): propositions over bytes, without the tests of Lines.antt. The laws `feed_is`, `line_is`,
--- `read_as`, `Spelt-is`, `digits_are` and `printed_is` say that Lines.antt and Printing.antt compute this.
+-- `read_as`, `spelt_is`, `digits_are` and `printed_is` say that Lines.antt and Printing.antt compute this.
 -- Assumes nothing.
 use Rattle.std.specs.Prelude.{ℕ, ◌≤◌, ◌<◌, List, [], ◌∷◌, ◌++◌, ◌≡◌, length, get_or}
 use Rattle.forms.specs.Words.{◌or◌, ◌and◌, Number}

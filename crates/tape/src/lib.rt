@@ -1,7 +1,9 @@
 // Reads and prints the lines of a day on slices of bytes. No function has a `requires`: bytes that are no line give
 // an unread line, and a line that does not fit is not printed.
+#![tactic(auto)]
+
 ghost use Rattle.std.specs.Prelude.{◌≡◌, ◌≤◌, length};
-ghost use Rattle.tape.specs.Lines.{to_feed, unread, Reads};
+ghost use Rattle.tape.specs.Lines.{index_of, to_feed, unread, Reads};
 ghost use Rattle.tape.specs.Printing.{printing};
 
 mod put;
@@ -20,7 +22,7 @@ pub const MOST_PRINTED: usize = 16;
 pub const LONGEST_PRINTED: usize = 380;
 
 // The content of a line.
-#[derive(Drop)]
+#[derive(Clone, Copy)]
 pub struct Line {
     // 0: it cannot be read
     pub letter: u8,
@@ -33,7 +35,20 @@ pub fn to_feed(text: &[u8]) -> usize
     ensures upper_bound { result ≤ length text.now }
     ensures value { result ≡ to_feed text.now }
 {
-    bytes::scan::find(text, 0, text.len(), b'\n')
+    find(text, b'\n')
+}
+
+// How many bytes stand before the first `byte`; all of them where there is none.
+fn find(text: &[u8], byte: u8) -> usize
+    ensures upper_bound { result ≤ length text.now }
+    ensures value { result ≡ index_of byte text.now }
+{
+    for (i, c) in text.iter().enumerate() {
+        if *c == byte {
+            return i;
+        }
+    }
+    text.len()
 }
 
 // The result for a text that cannot be read.

@@ -4,12 +4,12 @@ ghost use Rattle.std.specs.Prelude.{◌≡◌, ◌≤◌, drop, set};
 ghost use mathlib.Core.List.{foldl};
 ghost use Rattle.tape.specs.Lines.{numbers_after};
 ghost use Rattle.tape.specs.Lines.{further as Lines·further};
-ghost use Rattle.tape.specs.Scanning.{stuck as Scanning·stuck, opened, lengthened, digit as Scanning·digit, step as Scanning-step, place as Scanning·place, begun, turn, finished as Scanning·finished};
+ghost use Rattle.tape.specs.Scanning.{stuck as Scanning·stuck, opened, lengthened, digit as Scanning·digit, step as Scanning·step, place as Scanning·place, begun, turn, finished as Scanning·finished};
 
 use crate::{Line, MOST_NUMBERS};
 
 // How far a line has been read.
-#[derive(Drop)]
+#[derive(Clone, Copy)]
 pub struct Scan {
     // nothing was wrong so far
     pub good: bool,
@@ -22,7 +22,7 @@ pub struct Scan {
 }
 
 // A scan, with the numbers before the open one.
-#[derive(Drop)]
+#[derive(Clone, Copy)]
 pub struct Reading {
     pub scan: Scan,
     pub numbers: [u32; 5],
@@ -105,7 +105,7 @@ pub(crate) fn digit(s: Scan, c: u8) -> Scan
 
 // Takes the next byte.
 pub(crate) fn step(s: Scan, c: u8) -> Scan
-    ensures { result ≡ Scanning-step s c }
+    ensures { result ≡ Scanning·step s c }
 {
     if !s.good {
         return stuck(s);

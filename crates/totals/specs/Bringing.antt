@@ -1,7 +1,7 @@
 -- What an event makes of any totals, wrong ones too (document 02, R-4).
 -- Assumes nothing.
 use Rattle.std.specs.Prelude.{ℕ, Bool, not, [], ◌∷◌, eqb}
-use Rattle.forms.specs.Choice.{if◌then◌else◌, all_of, any_of}
+use Rattle.forms.specs.Choice.{if◌then◌otherwise◌, all_of, any_of}
 use Rattle.rules.specs.Stock.{Paused, Late, clock_of}
 use Rattle.rules.specs.Totals.{brought, wrong_totals}
 use Rattle.rules.specs.declared.Stock.{Stock}
@@ -9,7 +9,7 @@ use Rattle.rules.specs.declared.Totals.{Totals}
 
 -- what the rules make of them; totals that are wrong stay as they are
 unfoldable pub bringing : ℕ → Stock → Stock → Totals → Totals
-bringing price s s' t = if wrong_totals (clock_of s) t then t else brought price s s' t
+bringing price s s' t = if wrong_totals (clock_of s) t then t otherwise brought price s s' t
 
 -- in a pause after an event, and in none before it
 unfoldable pub pause_begins : ℕ → ℕ → Bool

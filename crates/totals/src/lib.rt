@@ -1,5 +1,7 @@
 // The day totals beside a stock: whether they are wrong, and what an event makes of them. No public function has a
 // `requires`: each gives for every input what the rules say; totals that are wrong are left as they are.
+#![tactic(auto)]
+
 ghost use Rattle.std.specs.Prelude.{◌≡◌, ◌+◌, ◌<◌, ◌^◌};
 ghost use Rattle.rules.specs.Machine.{message};
 ghost use Rattle.rules.specs.Totals.{spend, spent_in_all, traded_by, wrong_totals};

@@ -2,7 +2,7 @@
 -- Assumes nothing.
 use Rattle.std.proofs.Common.{◌≡◌, ℕ, zero, suc, ◌+◌, ◌-◌, ◌<◌, ◌≤◌, max, Bool, true, false, ltb, List, [], ◌∷◌, ◌++◌, map, length, get_or, take, drop, replicate, refl, ap, ◌∙◌, not-suc-le-zero, arith, drop_of_length-le, get_or-drop, get_or-append-add, ltb-false, ltb-true, le-leb}
 use lib.ListN.{length-replicate, get_or-replicate, get_or-append}
-use Rattle.forms.specs.Choice.{if◌then◌else◌}
+use Rattle.forms.specs.Choice.{if◌then◌otherwise◌}
 use Rattle.forms.proofs.Choice.{tests, if_true, if_false}
 use Rattle.forms.proofs.Promises.{agree}
 use Rattle.rules.specs.Stock.{Trade, total, oldest, figures_of, staying}
@@ -65,7 +65,7 @@ freed_are_zero n front xs i h =
     at : i ≡ length front + k
     at = omega arith
 
-    behind : (b : Bool) → ltb i n ≡ b → get_or (zeros ++ others) k 0 ≡ (if ltb i n then 0 else get_or xs i 0)
+    behind : (b : Bool) → ltb i n ≡ b → get_or (zeros ++ others) k 0 ≡ (if ltb i n then 0 otherwise get_or xs i 0)
     behind true q =
         let freed : k < n - length front = omega (arith, ltb-true i n q) in
         simp (q, if_true) (get_or-append zeros others 0 k (simp length-replicate freed) ∙ get_or-replicate (n - length front) k 0 0 freed)
@@ -79,12 +79,12 @@ freed_are_zero n front xs i h =
 -- ------------------------------------------------------------------ the trades that are gone
 
 staying_drop : (time : ℕ) (w : List Trade) → staying time w ≡ drop (left_of time (map (λ t. t.at) w)) w
-unfolding staying left_of if◌then◌else◌
+unfolding staying left_of if◌then◌otherwise◌
 staying_drop time [] = refl
 staying_drop time (t ∷ w) = go (ltb time (t.at + 300_000)) (staying_drop time w)
   where
     go : (b : Bool) → staying time w ≡ drop (left_of time (map (λ t. t.at) w)) w
-        → (if b then t ∷ w else staying time w) ≡ drop (if b then 0 else suc (left_of time (map (λ t. t.at) w))) (t ∷ w)
+        → (if b then t ∷ w otherwise staying time w) ≡ drop (if b then 0 otherwise suc (left_of time (map (λ t. t.at) w))) (t ∷ w)
     go true e = refl
     go false e = e
 

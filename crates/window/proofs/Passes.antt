@@ -6,7 +6,7 @@ use mathlib.Core.List.{foldl, foldl-append}
 use native.Mathlib.Nat.{mod-add-div}
 use lib.Bits.{bit_or}
 use lib.ListN.{get_or-eq_default}
-use Rattle.forms.specs.Choice.{if◌then◌else◌, any_of}
+use Rattle.forms.specs.Choice.{if◌then◌otherwise◌, any_of}
 use Rattle.forms.proofs.Bits.{or_left, or_right}
 use Rattle.forms.proofs.Choice.{if_true, if_false}
 use Rattle.forms.proofs.Loops.{fold_turn, fold_end}
@@ -81,7 +81,7 @@ module _ (n i bits : ℕ) (xs : List ℕ) (so_far : bits < 999_999_999 → price
   unfolding prices_bad see_price
   price_turn less h m e low =
       let bits_below = or_left bits less in
-      let less-below = or_right bits less in
+      let less_below = or_right bits less in
       let price : get_or xs i 0 ≡ less + 1 = sym e ∙ mod-eq_of_lt (omega arith) in
       let good = so_far (omega arith) in
       rw (add-one, take-suc xs i 0 (omega arith), foldl-append, good, price, ne_eqb (less + 1) 0 (λ z. omega arith), le-ltb 999_999_999 (less + 1) (omega arith))
@@ -135,11 +135,11 @@ module _ (t k n : ℕ) (xs : List ℕ) (m : n ≤ length xs) (so_far : left_of t
       omega (arith, so_far, z)
 
 pub left_few : (t : ℕ) (xs : List ℕ) → left_of t xs ≤ length xs
-unfolding left_of if◌then◌else◌
+unfolding left_of if◌then◌otherwise◌
 left_few t [] = omega arith
 left_few t (u ∷ us) = go (ltb t (u + 300_000)) (left_few t us)
   where
-    go : (b : Bool) → left_of t us ≤ length us → (if b then 0 else suc (left_of t us)) ≤ suc (length us)
+    go : (b : Bool) → left_of t us ≤ length us → (if b then 0 otherwise suc (left_of t us)) ≤ suc (length us)
     go true h = omega arith
     go false h = omega arith
 
@@ -149,8 +149,8 @@ few_left t n r xs e = omega (arith, e, left_few t (take n xs), length-take n xs)
 -- ------------------------------------------------------------------ both passes of a survey
 
 -- one trade more is bad as its time or its price is
-apart : (a b c d e f : Bool) → (if a || b then true else any_of (any_of (e ∷ f ∷ []) ∷ c ∷ d ∷ [])) ≡ (((a || c) || d) || ((b || e) || f))
-unfolding if◌then◌else◌ any_of
+apart : (a b c d e f : Bool) → (if a || b then true otherwise any_of (any_of (e ∷ f ∷ []) ∷ c ∷ d ∷ [])) ≡ (((a || c) || d) || ((b || e) || f))
+unfolding if◌then◌otherwise◌ any_of
 apart true b c d e f = refl
 apart false true true d e f = refl
 apart false true false true e f = refl

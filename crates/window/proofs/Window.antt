@@ -5,7 +5,7 @@ use mathlib.Core.List.{map-append, foldl, foldl-append, foldl-map}
 use native.Mathlib.Nat.{max-eq_left}
 use native.Mathlib.Decide.{dec_le}
 use borrow.Author.Tests.{lt-leb}
-use Rattle.forms.specs.Choice.{if◌then◌else◌}
+use Rattle.forms.specs.Choice.{if◌then◌otherwise◌}
 use Rattle.forms.proofs.Choice.{if_true, if_false, if_no, any_head, any_tail, tests}
 use Rattle.rules.specs.Stock.{Trade, total, oldest, figures_of}
 use Rattle.rules.specs.Numbers.{Seen, not_price, bad_trade, see, bad_trades}
@@ -83,13 +83,13 @@ total_snoc : (w : List Trade) (t : Trade) → total (w ++ (t ∷ [])) ≡ total 
 unfolding total
 total_snoc w t = foldl-append _ _ w (t ∷ [])
 
-oldest_snoc : (w : List Trade) (t : Trade) → oldest (w ++ (t ∷ [])) ≡ (if eqb (length w) 0 then t.at else oldest w)
+oldest_snoc : (w : List Trade) (t : Trade) → oldest (w ++ (t ∷ [])) ≡ (if eqb (length w) 0 then t.at otherwise oldest w)
 unfolding oldest
 oldest_snoc [] t = simp (eq-eqb 0 0 refl, if_true)
 oldest_snoc (u ∷ w) t = simp (ne_eqb (suc (length w)) 0 (λ e. omega arith), if_false)
 
 pub figures_snoc : (w : List Trade) (t : Trade)
-    → figures_of (w ++ (t ∷ [])) ≡ record { count = length w + 1; oldest = if eqb (length w) 0 then t.at else oldest w; sum = total w + t.price }
+    → figures_of (w ++ (t ∷ [])) ≡ record { count = length w + 1; oldest = if eqb (length w) 0 then t.at otherwise oldest w; sum = total w + t.price }
 unfolding figures_of
 figures_snoc w t = simp (length-append, oldest_snoc, total_snoc)
 

@@ -1,7 +1,7 @@
 -- What the places of a window obey. Each field is a theorem: `laws` of proofs/Laws.antt proves the record.
 -- Assumes nothing.
 use Rattle.std.specs.Prelude.{◌≡◌, ℕ, ◌<◌, ◌≤◌, true, List, map, length, drop, nat_lt, slice_index, slice_index_or}
-use Rattle.forms.specs.Choice.{if◌then◌else◌}
+use Rattle.forms.specs.Choice.{if◌then◌otherwise◌}
 use Rattle.forms.specs.Promises.{Determines}
 use Rattle.rules.specs.Stock.{Trade, figures_of, staying}
 use Rattle.rules.specs.declared.Figures.{Figures}
@@ -26,7 +26,7 @@ ReadBack = (count : ℕ) (w : List Trade) (times prices : List ℕ)
 -- after the written window, a place that was used is 0, and any other is as it was
 abbrev pub FreedAreZero : Type 0
 FreedAreZero = (count : ℕ) (front xs : List ℕ) (i : ℕ) → length front ≤ i
-    → slice_index (laid count front xs) i ≡ (if nat_lt i count then 0 else slice_index xs i)
+    → slice_index (laid count front xs) i ≡ (if nat_lt i count then 0 otherwise slice_index xs i)
 
 -- the trades that stay at a time are all but those that `gone_of` counts
 abbrev pub GoneAreTheRest : Type 0

@@ -1,7 +1,7 @@
 -- The places of one stock and the window in them (document 01, "What the book holds"; of freed places, "States").
 -- Assumes nothing.
 use Rattle.std.specs.Prelude.{◌≡◌, ℕ, zero, suc, ◌+◌, ◌-◌, max, Bool, true, false, not, List, [], ◌∷◌, ◌++◌, map, length, take, drop, replicate, ◌==◌, nat_le, nat_lt, slice_index}
-use Rattle.forms.specs.Choice.{if◌then◌else◌, all_of}
+use Rattle.forms.specs.Choice.{if◌then◌otherwise◌, all_of}
 use Rattle.rules.specs.Stock.{Trade, total, oldest, figures_of}
 use Rattle.rules.specs.Numbers.{bad_trades}
 use Rattle.rules.specs.declared.Figures.{Figures}
@@ -22,7 +22,7 @@ laid n front xs = front ++ (replicate (n - length front) 0 ++ drop (max n (lengt
 
 -- `laid`, if there is room for the used places and for `front`; else the places as they were
 unfoldable pub placed : ℕ → List ℕ → List ℕ → List ℕ
-placed n front xs = if nat_le (max n (length front)) (length xs) then laid n front xs else xs
+placed n front xs = if nat_le (max n (length front)) (length xs) then laid n front xs otherwise xs
 
 -- as many places, each of them 0
 abbrev pub wiped : List ℕ → List ℕ
@@ -57,17 +57,17 @@ no_figures = record { count = 0; oldest = 0; sum = 0 }
 unfoldable pub survey_of : ℕ → ℕ → List ℕ → List ℕ → Surveyed
 survey_of clock count times prices =
     let w = trades count times prices in
-    if all_of (whole count times prices ∷ not (bad_trades clock w) ∷ []) then record { sound = true; figures = figures_of w } else
+    if all_of (whole count times prices ∷ not (bad_trades clock w) ∷ []) then record { sound = true; figures = figures_of w } otherwise
     record { sound = false; figures = no_figures }
 
 -- how many at the front of a list of times have left at `time`: each stays for 300,000
 unfoldable pub left_of : ℕ → List ℕ → ℕ
 left_of time [] = 0
-left_of time (u ∷ us) = if nat_lt time (u + 300_000) then 0 else suc (left_of time us)
+left_of time (u ∷ us) = if nat_lt time (u + 300_000) then 0 otherwise suc (left_of time us)
 
 -- how many of the first `count` places have left at `time`; 0 where there are fewer places
 unfoldable pub gone_of : ℕ → ℕ → List ℕ → ℕ
-gone_of time count times = if nat_le count (length times) then left_of time (take count times) else 0
+gone_of time count times = if nat_le count (length times) then left_of time (take count times) otherwise 0
 
 -- the figures once the `gone` oldest trades have left, from the figures f of all: what left is subtracted from the sum. No figures where
 -- the places are not whole, no trade stays, or the sum is less than that of what left
@@ -76,5 +76,5 @@ rest_of gone f times prices =
     let w = trades f.count times prices in
     let left = total (take gone w) in
     if all_of (whole f.count times prices ∷ nat_lt gone f.count ∷ nat_le left f.sum ∷ []) then
-    record { count = f.count - gone; oldest = oldest (drop gone w); sum = f.sum - left } else
+    record { count = f.count - gone; oldest = oldest (drop gone w); sum = f.sum - left } otherwise
     no_figures

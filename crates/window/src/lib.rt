@@ -1,6 +1,8 @@
 // The five-minute window of trades, in a stock's part of the two lent arrays: its first `count` places of
 // each are the window, the oldest trade first. No public function has a `requires`: definitions of
 // specs/Places.antt give each its result for every input, and every place at exit.
+#![tactic(auto)]
+
 ghost use Rattle.std.specs.Prelude.{◌≡◌};
 ghost use Rattle.window.specs.Places.{survey_of, gone_of, rest_of, wiped, Written};
 
@@ -10,7 +12,7 @@ mod one;
 mod pass;
 
 // What a step does to the window.
-#[derive(Drop)]
+#[derive(Clone, Copy)]
 pub enum Change {
     Stay,
     Join { time: u32, price: u32 },
@@ -22,7 +24,7 @@ pub enum Change {
 }
 
 // The result of a survey; the figures are zeros where the trades are not sound.
-#[derive(Drop)]
+#[derive(Clone, Copy)]
 pub struct Surveyed {
     pub sound: bool,
     pub figures: Figures,
