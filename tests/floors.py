@@ -4,8 +4,8 @@
     tests/floors.py
 
 A part of the gate calls `faults` with all its counts. A count below its floor is a fault; so is a floor that is far below its count, a
-floor without a count, and a count without a floor. `faults` records the part in target/floors.held, which rt ci removes with the rest of
-target/ when it begins. The gate runs this command last: it fails if a part that has floors is not recorded there.
+floor without a count, and a count without a floor. `faults` records the part in target/floors.held, which the gate removes before the
+comparisons begin. It runs this command last: it fails if a part that has floors is not recorded there.
 """
 import sys
 from functools import lru_cache

@@ -1,8 +1,7 @@
-"""Edits, and copies of the crates in which they are tried. Used by tests/edits, tests/walks, tests/tried/run and tests/wrong-rules/run.
+"""Edits, and copies of the crates in which they are tried. Used by tests/edits, tests/tried/run and tests/wrong-rules/run.
 
 An *edit* is a file: a sentence that says what is wrong, perhaps a line `statement: NAME` and a line `crate: NAME`, and then the changes, each
-a line `old: ` and a line `new: ` below the line `file: ` that they belong to. A path is relative to the crate; one that begins with
-tools/walks is relative to the repository. Changes are made one after the other, and each old text must occur exactly once.
+a line `old: ` and a line `new: ` below the line `file: ` that they belong to. A path is relative to the crate. Changes are made one after the other, and each old text must occur exactly once.
 
 Edits stand in crates/CRATE/must-fail, which rt tries at every run of the gate, in tests/tried/CRATE and in tests/wrong-rules.
 """
@@ -11,7 +10,6 @@ import queue
 import re
 import shutil
 import subprocess
-import sys
 import tempfile
 from collections import namedtuple
 from concurrent.futures import ThreadPoolExecutor
@@ -22,17 +20,24 @@ from common import ROOT
 from statements import in_words, laws, refusals
 
 WORKERS = int(os.environ.get("WORKERS", "2"))
-WALKS = "tools/walks"
+# The status of tools/over where rt ci left no libraries.
+NOT_OVER = 75
 FORM = re.compile(r"(?!file: )(.+)\n(?:statement: (\S+)\n)?(?:crate: (\w+)\n)?((?=file: )(?:(?:file: .+\n)?old: .+\nnew:.*\n)+)")
 PAIR = re.compile(r"(?:file: (.+)\n)?old: (.+)\nnew: ?(.*)\n")
 NO_EDIT = "it is not a sentence with lines file, old and new below it"
-UNPROVED = ("`search`: no proof of", "`omega`: the goal does not follow")
-ERROR = re.compile(r"^(.+?):(\d+):\d+: error: (?:in )?`(\S+)`: (.*)$", re.M)
-INVALID = re.compile(r"^(?:specs/.*error: |src/.*error\[).*$", re.M)
+# What the prover says of a goal that a proof file answers and that it does not prove, and of one that no file answers.
+UNPROVED = re.compile(r"`(?:search|grind)`: no proof of|`omega`: the (?:goal|part `\S+` of the goal) does not follow")
+# A refused declaration of an antt file, or a goal of a function that no file answers, which has the line of src/.
+ERROR = re.compile(r"^(?:note: )?(?:\./)?(\S+?):(\d+):\d+: (?:error: (?:in )?`(\S+)`: (.*)|(it is not proved that .*))$", re.M)
+INVALID = re.compile(r"^(?:\./)?(?:specs|src)/\S*: error.*$", re.M)
+# A proof file that names what the edit took away, as rt passes over it too.
+MISFIT = re.compile(r"^(?:note: )?(?:\./)?proofs/.*(?:has no field|is not in scope|has no `|was not admitted|was rejected).*$", re.M)
+# What `rt ci` and `rt must-fail` say of a must-fail edit that the check refuses: the first error.
+SAID = r"^rt: must-fail {}/{}\.edit: refused, as it must be(?: \((.*?)\))?: (.*)$"
 
 
-class Checked(namedtuple("Checked", "status printed line")):
-    """The status of a check, its output, in which paths are relative to the crate, and the source line of its first error."""
+class Checked(namedtuple("Checked", "status printed")):
+    """The status of a check, and its output, in which paths are relative to the crate."""
 
     @property
     def refused(self):
@@ -40,7 +45,7 @@ class Checked(namedtuple("Checked", "status printed line")):
 
     @property
     def last(self):
-        return self.printed.strip().rpartition("\n")[2]
+        return (re.findall(r"^(?:logic=.*|.*no verdict.*|.*killed.*)$", self.printed, re.M) or self.printed.strip().splitlines() or [""])[-1]
 
 
 # ---------------------------------------------------------------- edits
@@ -59,7 +64,7 @@ class Edit:
             self.changes.append((file, old, new))
 
     def touches(self, part):
-        """Whether it changes a file below src/, specs/, proofs/ or tools/walks/."""
+        """Whether it changes a file below src/, specs/ or proofs/."""
         return any(file.startswith(f"{part}/") for file, _, _ in self.changes)
 
 
@@ -87,7 +92,7 @@ def edited(edit, folder=ROOT):
         raise ValueError(NO_EDIT)
     texts = {}
     for file, old, new in edit.changes:
-        path = folder / file if file.startswith(f"{WALKS}/") else folder / "crates" / edit.crate / file
+        path = folder / "crates" / edit.crate / file
         if not path.is_file():
             raise ValueError(f"there is no file {file}")
         text = texts.get(path) or path.read_text()
@@ -111,31 +116,23 @@ def applies(edit):
 # ---------------------------------------------------------------- trying
 
 
-def write_walks(folder):
-    """Runs the scripts of tools/walks in a folder that has them and the proofs; returns the scripts."""
-    scripts = [script for script in sorted((folder / WALKS).glob("*.py")) if script.name != "ctx.py"]
-    for script in scripts:
-        subprocess.run([sys.executable, "-B", script], check=True)
-    return scripts
-
-
 class Worker:
-    """A copy of the crates in which one edit after another is checked, so that only what an edit touches is checked again. Libraries that
-    are proved already are copied along; rt takes them where no file of theirs has changed."""
+    """A copy of the crates in which one edit after another is checked, so that only what an edit touches is checked again. After the gate's
+    rt ci the libraries are the ones that it left; else rt takes what checks kept of them, or proves them."""
 
     def __init__(self, folder):
         self.folder, self.stands = folder.resolve(), {}
-        for part in ("crates", WALKS, "target/rlib", "target/stamp"):
-            if (ROOT / part).is_dir():
-                shutil.copytree(ROOT / part, folder / part)
+        shutil.copytree(ROOT / "crates", folder / "crates", ignore=shutil.ignore_patterns("out"))
         shutil.copy(ROOT / "crates.txt", folder)
 
+    def run(self, crate, *command):
+        return subprocess.run(command, cwd=self.folder / "crates" / crate, stdout=subprocess.PIPE, stderr=subprocess.STDOUT, text=True)
+
     def check(self, crate):
-        done = subprocess.run(["rt", "dev", crate], cwd=self.folder, env=dict(os.environ, RT_CUT="0"), capture_output=True, text=True)
-        printed = (done.stdout + done.stderr).replace(f"{self.folder}/crates/{crate}/", "")
-        error = ERROR.search(printed)
-        at = self.folder / "crates" / crate / error[1] if error else None
-        return Checked(done.returncode, printed, at.read_text().splitlines()[int(error[2]) - 1] if at and at.is_file() else "")
+        done = self.run(crate, ROOT / "tools/over", "check", crate, "--jobs", "1", "--incremental", "out/incremental")
+        if done.returncode == NOT_OVER:
+            done = self.run(crate, "rt", "check")
+        return Checked(done.returncode, done.stdout.replace(f"{self.folder}/crates/{crate}/", ""))
 
     def attempt(self, edit):
         """What the check says about the edit, or why the edit could not be made."""
@@ -149,11 +146,8 @@ class Worker:
             before = {path: path.read_text() for path in texts}
             for path, text in texts.items():
                 path.write_text(text)
-            if edit.touches(WALKS):
-                before.update((path, path.read_text()) for path in self.folder.glob("crates/*/proofs/**/Proof.antt"))
-                write_walks(self.folder)
             return self.check(edit.crate)
-        except (ValueError, subprocess.CalledProcessError) as why:
+        except ValueError as why:
             return str(why)
         finally:
             for path, text in before.items():
@@ -192,22 +186,26 @@ def stated(crate):
     return in_words(crate) | {(file, name) for _, file, name in laws(crate)}
 
 
+def first_error(printed):
+    """The first error of a check that counts: not one of a proof file that names what the edit took away."""
+    return ERROR.search(MISFIT.sub("", printed))
+
+
 def invalid(printed):
     """The end of the first error in specs/ or of the compiler in src/, if a check printed one: the edit made no rule or no program."""
     error = INVALID.search(printed)
     return error[0][-120:] if error else None
 
 
-def fault(edit, printed, line=""):
+def fault(edit, printed):
     """Why a refused edit shows nothing, or None if it makes a fact false. It is decided by what the check printed, in which paths are
-    relative to the crate, and by the source line of its first error.
+    relative to the crate.
 
-    With the edit, specs/ and src/ must still be valid. An edit of src/ must be refused first at a proof obligation, and not because a
-    proof file no longer fits the code. If it changes tools/walks too, the function's walk was written again and must be refused at its last
-    step, which asks for the promise. An edit of specs/ must be refused at a law or a theorem in words that fails by itself (statements.py
+    With the edit, specs/ and src/ must still be valid. An edit of src/ must be refused first at a proof obligation, and not only because a
+    proof file no longer fits the code. An edit of specs/ must be refused at a law or a theorem in words that fails by itself (statements.py
     says which these are). An edit of proofs/ shows nothing.
     """
-    first = ERROR.search(printed)
+    first = first_error(printed)
     if not edit.changes:
         return NO_EDIT
     if edit.touches("proofs"):
@@ -219,9 +217,17 @@ def fault(edit, printed, line=""):
     if edit.touches("specs"):
         failed = {theorem for theorem, lacks in refusals(printed).items() if lacks is None}
         return None if failed & stated(edit.crate) else f"no law refuses it, only {', '.join(sorted(name for _, name in failed))}"
-    path, _, name, why = first.groups()
-    if edit.touches(WALKS):
-        good = name == "walk" and line.strip().startswith("by ! (exits")
-    else:
-        good = Path(path).parts[0] == "proofs" and any(words in why for words in UNPROVED)
-    return None if good else f"first refused at {path}, {name}: {why[:90]}"
+    path, _, name, why, goal = first.groups()
+    good = goal or Path(path).parts[0] == "proofs" and UNPROVED.search(why)
+    return None if good else f"first refused at {path}, {name}: {(why or goal)[:90]}"
+
+
+def why_not(edit, result):
+    """Why a tried edit is not refused for a good reason, or None."""
+    if isinstance(result, str):
+        return result
+    if result.status == 0:
+        return f"it passes: {edit.says}"
+    if not result.refused:
+        return f"the check came to no verdict: {result.last}"
+    return fault(edit, result.printed)
