@@ -46,6 +46,9 @@ inside i n b e t =
     let prices : length b.prices ≡ 512 * length b.records = eq_of_not _ _ (any_head _ _ (any_tail _ _ places)) in
     record { record_of = stock; times_of = omega arith; prices_of = omega arith }
 
+pub in_book : (i n : ℕ) (records : List Record) (times prices : List ℕ) → n ≡ call_number i (lent records times prices) → n ≡ 0 → i < length records
+in_book i n records times prices e z = (inside i n (lent records times prices) e z).record_of
+
 -- the record that the code read, whatever it reads past the end, is the stock's
 module _ (i n : ℕ) (b : Lent) (is : n ≡ call_number i b) (zero : n ≡ 0) (d : Record) where
   own : bytes (get_or b.records i d) (part i b.times) (part i b.prices) ≡ bytes_of i b

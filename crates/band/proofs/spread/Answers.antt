@@ -29,8 +29,8 @@ module _ (k : ℕ) (m : Mean) (h : k < 256) (f : Fits m) where
     small_rule p z = simp (e, eq-eqb _ _ z, if_true)
 
   module _ (p : ℕ) (i : p < 256) where
-    one-fold : p * m.sum ≤ 255 * 2 ^ 44
-    one-fold =
+    one_fold : p * m.sum ≤ 255 * 2 ^ 44
+    one_fold =
         let byte : p ≤ 255 = omega arith in
         let sum : m.sum ≤ 2 ^ 44 = omega (arith, f.0) in
         mul-le-mul byte sum
@@ -38,18 +38,18 @@ module _ (k : ℕ) (m : Mean) (h : k < 256) (f : Fits m) where
     all_three : k * (p * m.sum) < 2 ^ 60
     all_three =
         let byte : k ≤ 255 = omega arith in
-        let by : k * (p * m.sum) ≤ 255 * (255 * 2 ^ 44) = mul-le-mul byte one-fold in
+        let by : k * (p * m.sum) ≤ 255 * (255 * 2 ^ 44) = mul-le-mul byte one_fold in
         omega arith
 
     one_fits : val.Fits w64 (p * m.sum)
-    one_fits = record { fits = omega (arith, one-fold) }
+    one_fits = record { fits = omega (arith, one_fold) }
 
     all_fit : val.Fits w64 (k * (p * m.sum))
     all_fit = record { fits = omega (arith, all_three) }
 
-    by-percent : (p ≡ 0 → ⊥) → k * (p * m.sum) ≡ spread_of m.sum m.count p k
+    by_percent : (p ≡ 0 → ⊥) → k * (p * m.sum) ≡ spread_of m.sum m.count p k
     unfolding spread_of
-    by-percent n = simp (ne_eqb _ _ n, if_false, mul_assoc)
+    by_percent n = simp (ne_eqb _ _ n, if_false, mul_assoc)
 
 pub overflow_mul-result : goal.overflow_mul-result
 overflow_mul-result c = search least_fits
@@ -64,4 +64,4 @@ pub overflow_mul-result-3 : goal.overflow_mul-result-3
 overflow_mul-result-3 c = search all_fit
 
 pub returns : goal.returns
-returns c = (search by-percent, search all_three)
+returns c = (search by_percent, search all_three)

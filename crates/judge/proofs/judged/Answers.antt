@@ -20,14 +20,14 @@ moved : (a b c d x r p : Bool) → any_of (a ∷ b ∷ c ∷ d ∷ x ∷ r ∷ p
 moved a b c d true r p = simp (joined, or-true)
 moved a b c d false r p = simp joined
 
-none-bad : bad_quotes no_quotes ≡ false
+none_bad : bad_quotes no_quotes ≡ false
 unfolding bad_quotes or_not_side if◌then◌otherwise◌
-none-bad = refl
+none_bad = refl
 
 module _ (f : Figures) (k : Kept) (q : Quotes) where
-  bad-apart : bad_stock (stock_of k q) ≡ (bad_stock (bare k) || bad_quotes q)
+  bad_apart : bad_stock (stock_of k q) ≡ (bad_stock (bare k) || bad_quotes q)
   unfolding bad_stock bad_times bad_reference
-  bad-apart = rw none-bad (moved _ _ _ _ (bad_quotes q) _ _)
+  bad_apart = rw none_bad (moved _ _ _ _ (bad_quotes q) _ _)
 
   same_next : next f (bare k) ≡ next f (stock_of k q)
   unfolding next moment_table
@@ -38,7 +38,7 @@ module _ (f : Figures) (k : Kept) (q : Quotes) where
       → ◌≡◌ {A = Verdict} (record { earliest = m; rubbish = (kept || quotes) || past }) (verdict_of f (stock_of k q))
   found m kept quotes past em ek eq ep =
       let is : m ≡ next f (stock_of k q) = em ∙ same_next in
-      simp (ep, is, bad-apart, ek, eq, or_any)
+      simp (ep, is, bad_apart, ek, eq, or_any)
 
 pub returns : goal.returns
 returns c = search found

@@ -20,8 +20,8 @@ module _ (m : Message) (time : ℕ) (e : time ≡ time_of m) where
   before : (clock : ℕ) → time < clock → ltb (time_of m) clock ≡ true
   before clock h = rw (← e) (lt-ltb time clock h)
 
-  not-before : (clock : ℕ) → clock ≤ time → ltb (time_of m) clock ≡ false
-  not-before clock h = rw (← e) (le-ltb time clock h)
+  not_before : (clock : ℕ) → clock ≤ time → ltb (time_of m) clock ≡ false
+  not_before clock h = rw (← e) (le-ltb time clock h)
 
   due : (earliest : Moment) (x b : Bool) → x ≡ due_by time earliest → x ≡ b → due_by (time_of m) earliest ≡ b
   due earliest x b f q = rw (← e, ← f) q
@@ -31,10 +31,10 @@ module _ (m : Message) (row state number : ℕ) (checks : List Check) (e : row �
   by_table : (number ≡ 0 → ⊥) → number ≡ first (table_check (taken (kind m) state) checks)
   by_table z = rw (← e, ← f) (hit _ number checks (ne_not number 0 z))
 
-  past-table : (r : ℕ) → number ≡ 0 → r ≡ first checks → r ≡ first (table_check (taken (kind m) state) checks)
-  past-table r z q = rw (← e, ← f) (miss _ number r checks (eq_not number 0 z) q)
+  past_table : (r : ℕ) → number ≡ 0 → r ≡ first checks → r ≡ first (table_check (taken (kind m) state) checks)
+  past_table r z q = rw (← e, ← f) (miss _ number r checks (eq_not number 0 z) q)
 
-ruleset refused = (before, not-before, due, by_table, past-table, refusals)
+ruleset refused = (before, not_before, due, by_table, past_table, refusals)
 
 pub returns-then-out_of_range : goal.returns-then-out_of_range
 unfolding message_checks

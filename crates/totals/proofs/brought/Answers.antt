@@ -12,9 +12,9 @@ use Rattle.totals.specs.Bringing.{bringing, pause_begins}
 use Rattle.totals.proofs.brought.Goals as goal
 
 -- totals that are not wrong add up to the clock
-adds-up : (t : Totals) (clock : ℕ) (wrong : Bool) → wrong ≡ wrong_totals clock t → wrong ≡ false → spent_in_all t.spent ≡ clock
+adds_up : (t : Totals) (clock : ℕ) (wrong : Bool) → wrong ≡ wrong_totals clock t → wrong ≡ false → spent_in_all t.spent ≡ clock
 unfolding wrong_totals
-adds-up t clock wrong is r = eq_of_not _ _ (any_head _ _ (sym is ∙ r))
+adds_up t clock wrong is r = eq_of_not _ _ (any_head _ _ (sym is ∙ r))
 
 module _ (t : Totals) (k k' : Kept) (wrong : Bool) (is : wrong ≡ wrong_totals k.course.clock t) where
   as_it_was : (price : ℕ) → wrong ≡ true → t ≡ bringing price (bare k) (bare k') t
@@ -39,7 +39,7 @@ returns-then-is_wrong c = search as_it_was
 
 pub spent-requires : goal.spent-requires
 spent-requires c =
-    room _ _ _ (adds-up _ _ _ c.is_wrong.ensures c.if-is_wrong.false) c.since-more.ensures.1
+    room _ _ _ (adds_up _ _ _ c.is_wrong.ensures c.if-is_wrong.false) c.since-more.ensures.1
 
 pub returns : goal.returns
 returns c = search all

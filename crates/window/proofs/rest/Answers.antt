@@ -12,9 +12,9 @@ module _ (k : ℕ) (f : Figures) (ts ps : List ℕ) (lt : length ts ≡ 512) (lp
   left : s ≡ total (take k (trades f.count ts ps))
   left = e ∙ sym (total_first k f.count ts ps (omega arith) (omega arith))
 
-  too-little : f.sum < s → no_figures ≡ rest_of k f ts ps
+  too_little : f.sum < s → no_figures ≡ rest_of k f ts ps
   unfolding rest_of
-  too-little l = let q = rw left at l in search tests
+  too_little l = let q = rw left at l in search tests
 
   some_left : (o : ℕ) → s ≤ f.sum → o ≡ get_or (take f.count ts) k 0
       → ◌≡◌ {A = Figures} (record { count = f.count - k; oldest = o; sum = f.sum - s }) (rest_of k f ts ps)
@@ -41,7 +41,7 @@ unfolding rest_of
 returns-then-count-gone c = search tests
 
 pub returns-then-f-left : goal.returns-then-f-left
-returns-then-f-left c = search too-little
+returns-then-f-left c = search too_little
 
 pub returns : goal.returns
 returns c = search some_left

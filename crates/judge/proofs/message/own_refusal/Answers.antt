@@ -16,38 +16,38 @@ use Rattle.quotes.specs.declared.Kept.{Kept}
 use Rattle.judge.proofs.message.own_refusal.Goals as goal
 
 -- what is right of the letter that the message is, is right of the message
-by-letter : (m n : Message) (held : ℕ) (s : Stock) (r : ℕ) → m ≡ n → r ≡ first (own_checks n held s) → r ≡ first (own_checks m held s)
-by-letter m n held s r e q = rw e q
+by_letter : (m n : Message) (held : ℕ) (s : Stock) (r : ℕ) → m ≡ n → r ≡ first (own_checks n held s) → r ≡ first (own_checks m held s)
+by_letter m n held s r e q = rw e q
 
 -- at the time of the message and beside any quotes, since a trade's checks ask neither
-of-trade : (time price held : ℕ) (k : Kept) (q : Quotes) (r : ℕ) → ((t : ℕ) (q : Quotes) → r ≡ first (own_checks (Trade t price) held (stock_of (fitted k) q)))
+of_trade : (time price held : ℕ) (k : Kept) (q : Quotes) (r : ℕ) → ((t : ℕ) (q : Quotes) → r ≡ first (own_checks (Trade t price) held (stock_of (fitted k) q)))
     → r ≡ first (own_checks (Trade time price) held (stock_of (fitted k) q))
-of-trade time price held k q r e = e time q
+of_trade time price held k q r e = e time q
 
 -- by what a call answered
-of-pause : (n : ℕ) (s : Stock) (b : Bool) (r : ℕ) → b ≡ straddle s → r ≡ first (n when not b ∷ []) → r ≡ first (n when not (straddle s) ∷ [])
-of-pause n s b r e q = rw (← e) q
+of_pause : (n : ℕ) (s : Stock) (b : Bool) (r : ℕ) → b ≡ straddle s → r ≡ first (n when not b ∷ []) → r ≡ first (n when not (straddle s) ∷ [])
+of_pause n s b r e q = rw (← e) q
 
 pub returns-in-Trade : goal.returns-in-Trade
 unfolding own_checks
-returns-in-Trade c = search (by-letter, of-trade)
+returns-in-Trade c = search (by_letter, of_trade)
 
 pub returns-in-Quote : goal.returns-in-Quote
 unfolding own_checks
-returns-in-Quote c = search (by-letter, no_check)
+returns-in-Quote c = search (by_letter, no_check)
 
 pub returns-in-Opening : goal.returns-in-Opening
 unfolding own_checks
-returns-in-Opening c = search by-letter
+returns-in-Opening c = search by_letter
 
 pub returns-in-Pause : goal.returns-in-Pause
 unfolding own_checks
-returns-in-Pause c = search (by-letter, of-pause)
+returns-in-Pause c = search (by_letter, of_pause)
 
 pub returns-in-Reopening : goal.returns-in-Reopening
 unfolding own_checks
-returns-in-Reopening c = search by-letter
+returns-in-Reopening c = search by_letter
 
 pub returns-in-Closing : goal.returns-in-Closing
 unfolding own_checks
-returns-in-Closing c = search by-letter
+returns-in-Closing c = search by_letter

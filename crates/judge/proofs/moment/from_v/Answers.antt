@@ -11,7 +11,7 @@ use Rattle.quotes.specs.declared.Kept.{Kept}
 use Rattle.forms.proofs.Bools.{joined}
 use Rattle.judge.proofs.moment.from_v.Goals as goal
 
-last-three : (f : Figures) (k : Kept) (x y r : Moment)
+last_three : (f : Figures) (k : Kept) (x y r : Moment)
     → x ≡ sooner
     (mark_h at k.reference.start + 30_000
     while ((leb 1 k.course.state && leb k.course.state 4) && not (eqb k.reference.hold 0))) no_moment
@@ -19,7 +19,7 @@ last-three : (f : Figures) (k : Kept) (x y r : Moment)
     → r ≡ sooner (mark_v at f.oldest + 300_000 while (leb k.course.state 4 && not (eqb f.count 0))) y
     → r ≡ earliest (drop 6 (moment_table f (bare k)))
 unfolding earliest moment_table
-last-three f k x y r ex ey er = simp (er, ey, ex, joined)
+last_three f k x y r ex ey er = simp (er, ey, ex, joined)
 
 pub returns : goal.returns
-returns c = search last-three
+returns c = search last_three

@@ -9,12 +9,12 @@ use Rattle.forms.specs.Choice.{if◌then◌otherwise◌}
 use Rattle.forms.proofs.Bools.{joined}
 use Rattle.judge.proofs.range.bad_kept.Goals as goal
 
-bad-kept : (k : Kept) (setup end times reference : Bool) (edge : ℕ) → setup ≡ bad_setup k.setup → end ≡ bad_end k.end
+bad_kept : (k : Kept) (setup end times reference : Bool) (edge : ℕ) → setup ≡ bad_setup k.setup → end ≡ bad_end k.end
     → times ≡ bad_times (bare k) → reference ≡ bad_reference (bare k) → edge ≡ k.end - 600_000
     → (ltb 5 k.course.state || setup || end || times || reference
     || (eqb k.course.state 3 && leb edge k.course.pause)) ≡ bad_stock (bare k)
 unfolding bad_stock bad_quotes or_not_side if◌then◌otherwise◌
-bad-kept k setup end times reference edge e1 e2 e3 e4 e5 = simp (e1, e2, e3, e4, e5, joined)
+bad_kept k setup end times reference edge e1 e2 e3 e4 e5 = simp (e1, e2, e3, e4, e5, joined)
 
 pub returns : goal.returns
-returns c = search bad-kept
+returns c = search bad_kept

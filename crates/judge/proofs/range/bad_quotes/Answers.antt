@@ -17,12 +17,12 @@ by_bits q b o bids offers h =
     let r : o ≤ 999_999_999 = omega (arith, or_right b o) in
     sym (rw (bids l) (offers r))
 
-bad-quotes : (q : Quotes) (bad r : Bool) → bad ≡ foldl or_not_side false q.bids → r ≡ foldl or_not_side bad q.offers → r ≡ bad_quotes q
+bad_quotes_lem : (q : Quotes) (bad r : Bool) → bad ≡ foldl or_not_side false q.bids → r ≡ foldl or_not_side bad q.offers → r ≡ bad_quotes q
 unfolding bad_quotes
-bad-quotes q bad r e f = rw (f, e)
+bad_quotes_lem q bad r e f = rw (f, e)
 
 pub returns-then-bits-le-HIGHEST_PRICE : goal.returns-then-bits-le-HIGHEST_PRICE
 returns-then-bits-le-HIGHEST_PRICE c = search by_bits
 
 pub returns : goal.returns
-returns c = search bad-quotes
+returns c = search bad_quotes_lem

@@ -7,10 +7,10 @@ use Rattle.quotes.specs.declared.Kept.{Kept}
 use Rattle.forms.proofs.Bools.{joined}
 use Rattle.judge.proofs.range.bad_reference.Goals as goal
 
-bad-reference : (k : Kept) (bad : Bool) → bad ≡ not_reference k.reference.price
+bad_reference_lem : (k : Kept) (bad : Bool) → bad ≡ not_reference k.reference.price
     → (bad || ((eqb k.reference.price.count 0 && leb 1 k.course.state) && leb k.course.state 4)) ≡ bad_reference (bare k)
 unfolding bad_reference
-bad-reference k bad e = simp (e, joined)
+bad_reference_lem k bad e = simp (e, joined)
 
 pub returns : goal.returns
-returns c = search bad-reference
+returns c = search bad_reference_lem

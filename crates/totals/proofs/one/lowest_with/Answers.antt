@@ -9,15 +9,15 @@ use Rattle.rules.specs.Totals.{lowest_with}
 use Rattle.totals.proofs.one.lowest_with.Goals as goal
 
 module _ (price n : ℕ) where
-  by-one-test : lowest_with price n ≡ (if not (eqb price 0) && (eqb n 0 || ltb price n) then price otherwise n)
+  by_one_test : lowest_with price n ≡ (if not (eqb price 0) && (eqb n 0 || ltb price n) then price otherwise n)
   unfolding lowest_with
-  by-one-test = simp joined
+  by_one_test = simp joined
 
   lower : (not (eqb price 0) && (eqb n 0 || ltb price n)) ≡ true → price ≡ lowest_with price n
-  lower e = sym (by-one-test ∙ if_true _ _ _ e)
+  lower e = sym (by_one_test ∙ if_true _ _ _ e)
 
   as_before : (not (eqb price 0) && (eqb n 0 || ltb price n)) ≡ false → n ≡ lowest_with price n
-  as_before e = sym (by-one-test ∙ if_false _ _ _ e)
+  as_before e = sym (by_one_test ∙ if_false _ _ _ e)
 
 pub returns-then-price-n : goal.returns-then-price-n
 returns-then-price-n c = search lower
