@@ -3,7 +3,8 @@
 use Prim.Native.Nat.{ℕ, ◌+◌, ◌-◌, ◌*◌, ◌/◌, ◌≤◌, ◌<◌, min}
 use mathlib.Core.List.{List, [], ◌∷◌, foldl}
 use mathlib.Core.Logic.{◌⊎◌, inl, inr, ⊎_elim}
-use mathlib.Core.Path.{◌≡◌, refl, ap}
+use mathlib.Core.HLevel.{is_prop→PathP}
+use mathlib.Core.Path.{◌≡◌, ◌∙◌, refl, sym, ap}
 use native.Mathlib.Nat.{mul-le-mul, mul-le-mul_right, le_of_mul-le-mul_right, mul_left_comm, mul-suc, add-mul, div-mul-le_self, le-div_iff_mul-le, div-lt_iff_lt-mul, div-zero, le_trans}
 use native.Mathlib.Decide.{ℕ_discrete}
 use native.Mathlib.Omega.{arith}
@@ -11,9 +12,13 @@ use borrow.Author.Tests.{ltb-true, ltb-false, eqb-true, eqb-false, eq-eqb, ne_eq
 use lib.Dec.{ltb, eqb}
 use lib.ListN.{length}
 use Rattle.forms.proofs.Choice.{if_true, if_false, if_arms}
+use Rattle.std.specs.Coded.{×_prop, le_prop}
+use Rattle.forms.specs.Promises.{Determines}
 use Rattle.forms.proofs.Promises.{agree}
-use Rattle.band.specs.Band.{small, percent_of, factor_of, spread_of, cent, lower_of, upper_of, minus_of, bands_of, bands_by, fits, printed_of, printed_by, distance, moves_by}
+use Rattle.band.specs.Band.{small, percent_of, factor_of, spread_of, cent, lower_of, upper_of, minus_of, bands_of, bands_by, fits, fit, price_of, printed_of, printed_by, distance, moves_by}
+use Rattle.band.specs.Words.{Fits}
 use Rattle.band.specs.declared.Bands.{Bands}
+use Rattle.band.specs.declared.Fitted.{Fitted}
 use Rattle.band.specs.declared.Mean.{Mean}
 use Rattle.band.specs.Laws.{Within, Around, Ordered, WholeCents, UpperNotZero, UpperFits, MeanBetween, PrintedNear, PrintedBetween, Laws}
 use Rattle.band.proofs.Words.{cent_nearest, printed_given, percent_is, factor_is, fits_is, spread_is, cent_is, bands_are, printed_is, moves_is, bands_scaled, moves_scaled}
@@ -210,6 +215,15 @@ sums low high s (x ∷ xs) w =
 pub mean_between : MeanBetween
 mean_between low high xs w = let s = sums low high 0 xs w in (omega arith, omega arith)
 
+-- ------------------------------------------------------------------ a mean that fits
+
+-- of a mean that fits nothing but the mean is told
+same : (r s : Fitted) → r.mean ≡ s.mean → r ≡ s
+same r s e = λ i. record { mean = e i; room = is_prop→PathP (λ j. Fits (e j)) (λ j. ×_prop le_prop le_prop) r.room s.room i }
+
+one_fitted : (m : Mean) → Determines (λ (r : Fitted). r.mean ≡ m)
+one_fitted m r s e f = same r s (e ∙ sym f)
+
 -- ------------------------------------------------------------------ all of them
 
 pub laws : Laws
@@ -236,6 +250,8 @@ laws = record {
   percent_determined = λ tier close. agree (percent_of tier close);
   factor_determined = λ leverage time end. agree (factor_of leverage time end);
   fits_determined = λ m. agree (fits m);
+  fitted_determined = λ mean. one_fitted (fit mean);
+  price_determined = λ price. one_fitted (price_of price);
   minus_determined = λ x y. agree (minus_of x y);
   bands_determined = λ reference percent k. agree (bands_by reference percent k);
   printed_determined = λ m. agree (printed_by m);

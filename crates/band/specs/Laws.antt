@@ -5,10 +5,11 @@ use Rattle.std.specs.Prelude.{ℕ, ◌*◌, ◌≤◌, true, List, [], ◌∷◌
 use Rattle.forms.specs.Promises.{Determines}
 use Rattle.forms.specs.Tables.{every}
 use Rattle.forms.specs.Words.{Gives}
-use Rattle.band.specs.Band.{percent_of, factor_of, no_mean, mean_of_all, fits, fit, spread_of, lower_of, upper_of, minus_of, bands_of, bands_by, cent, printed_of, printed_by, distance, moves_of, moves_by}
+use Rattle.band.specs.Band.{percent_of, factor_of, price_of, no_mean, mean_of_all, fits, fit, spread_of, lower_of, upper_of, minus_of, bands_of, bands_by, cent, printed_of, printed_by, distance, moves_of, moves_by}
 use Rattle.band.specs.Words.{percents, factors, Fits, spreads, NearestCent, AreBands, IsPrinted, OnePercent}
 use Rattle.band.specs.Examples.{right, by_hand}
 use Rattle.band.specs.declared.Bands.{Bands}
+use Rattle.band.specs.declared.Fitted.{Fitted}
 use Rattle.band.specs.declared.Mean.{Mean}
 
 -- every price of the list is from `low` to `high`
@@ -129,6 +130,8 @@ pub record Laws : Type 0 where
   pub percent_determined : (tier close : ℕ) → Determines (λ r. r ≡ percent_of tier close)
   pub factor_determined : (leverage time end : ℕ) → Determines (λ r. r ≡ factor_of leverage time end)
   pub fits_determined : (m : Mean) → Determines (λ r. r ≡ fits m)
+  pub fitted_determined : (mean : Mean) → Determines (λ (r : Fitted). r.mean ≡ fit mean)
+  pub price_determined : (price : ℕ) → Determines (λ (r : Fitted). r.mean ≡ price_of price)
   pub minus_determined : (x y : ℕ) → Determines (λ r. r ≡ minus_of x y)
   pub bands_determined : (reference : Mean) (percent k : ℕ) → Determines (λ r. r ≡ bands_by reference percent k)
   pub printed_determined : (m : Mean) → Determines (λ r. r ≡ printed_by m)

@@ -11,7 +11,7 @@ use lib.ListN.{length, length-map}
 use Rattle.forms.specs.Choice.{if◌then◌otherwise◌}
 use Rattle.forms.specs.Checks.{first}
 use Rattle.forms.proofs.Choice.{if_true, if_false}
-use Rattle.rules.specs.Counted.{Counted, reads, fresh, tell_answer, settle_answer, read_answer, or_wrong, tells}
+use Rattle.rules.specs.Counted.{Counted, reads, fresh, tell_answer, settle_answer, read_answer, or_wrong}
 use Rattle.rules.specs.TotalsWords.{Wrong}
 use Rattle.rules.specs.Machine.{On, Call, Calls, tell, settle, step_in, run}
 use Rattle.rules.specs.Book.{counting, blank, book, Accepted, now, book_tells, book_settles, book_reads, book_next, book_totals}
@@ -19,10 +19,10 @@ use Rattle.rules.specs.Numbers.{answer, call_checks}
 use Rattle.rules.specs.Words.{Rubbish}
 use Rattle.rules.specs.declared.Message.{Message}
 use Rattle.rules.specs.declared.Setup.{Setup}
+use Rattle.rules.proofs.Answers.{told_number, settled_number, read_number}
 use Rattle.rules.proofs.Counted.{if_right}
 use Rattle.rules.proofs.Demands.{demands}
 use Rattle.rules.proofs.Numbers.{told_1, settled_1, read_1}
-use Rattle.stock.proofs.Laws.{answer_number, notice_number}
 use Rattle.calls.specs.Setup.{setups_of}
 use Rattle.book.specs.Lent.{Lent}
 use Rattle.book.specs.Words.{UnusedAre0}
@@ -31,12 +31,6 @@ use Rattle.book.proofs.Layouts.{layout_is}
 use Rattle.book.proofs.Chains.{run_length, all_fit, started}
 use Rattle.book.proofs.Alike.{number_0}
 use Rattle.book.proofs.Follows.{first_number}
-
--- ------------------------------------------------------------------ a message's number
-
-tell_number : (m : Message) (h : Counted) → (tell_answer m h).number ≡ tells m h
-unfolding tell_answer
-tell_number m h = answer_number _ _
 
 -- ------------------------------------------------------------------ after any calls no stock is rubbish
 
@@ -83,7 +77,7 @@ module _ (end : ℕ) (us : List Setup) (accepted : Accepted end us) where
             let l = ltb-true i (length (hs cs)) q in
             let n : (tell_answer m (now end us cs i)).number ≡ 1 = simp (first_is, q, if_true, eq-eqb 0 0 refl) at e in
             let here : i < length us = omega (arith, long cs, l) in
-            clean cs i here (told_1 m _ (own_1 cs i here _ (sym (tell_number m _) ∙ n)))
+            clean cs i here (told_1 m _ (own_1 cs i here _ (sym (told_number m _) ∙ n)))
         go false q e = let n : ◌≡◌ {A = ℕ} 3 1 = simp (first_is, q, if_false, ne_eqb 3 0 (λ z. omega (arith, z))) at e in omega (arith, n)
 
     settled_not_one : (time : ℕ) → (book_settles end (hs cs) places places i time).answer.number ≡ 1 → ⊥
@@ -95,7 +89,7 @@ module _ (end : ℕ) (us : List Setup) (accepted : Accepted end us) where
             let l = ltb-true i (length (hs cs)) q in
             let n : (settle_answer time (now end us cs i)).answer.number ≡ 1 = simp (first_is, q, if_true, eq-eqb 0 0 refl) at e in
             let here : i < length us = omega (arith, long cs, l) in
-            clean cs i here (settled_1 time _ (own_1 cs i here _ (sym (notice_number time _) ∙ n)))
+            clean cs i here (settled_1 time _ (own_1 cs i here _ (sym (settled_number time _) ∙ n)))
         go false q e = let n : ◌≡◌ {A = ℕ} 3 1 = simp (first_is, q, if_false, ne_eqb 3 0 (λ z. omega (arith, z))) at e in omega (arith, n)
 
     read_not_one : (book_reads end (hs cs) places places i).number ≡ 1 → ⊥
@@ -107,7 +101,7 @@ module _ (end : ℕ) (us : List Setup) (accepted : Accepted end us) where
             let l = ltb-true i (length (hs cs)) q in
             let n : (answer (reads (now end us cs i)) (now end us cs i).whole.stock).number ≡ 1 = simp (first_is, q, if_true, eq-eqb 0 0 refl) at e in
             let here : i < length us = omega (arith, long cs, l) in
-            clean cs i here (read_1 _ (own_1 cs i here _ (sym (answer_number _ _) ∙ n)))
+            clean cs i here (read_1 _ (own_1 cs i here _ (sym (read_number _) ∙ n)))
         go false q e = let n : ◌≡◌ {A = ℕ} 3 1 = simp (first_is, q, if_false, ne_eqb 3 0 (λ z. omega (arith, z))) at e in omega (arith, n)
 
     next_not_one : (book_next end (hs cs) places places i).number ≡ 1 → ⊥

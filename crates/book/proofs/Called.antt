@@ -12,13 +12,13 @@ use lib.Seq.{set-get_or}
 use Rattle.forms.proofs.Choice.{if_true, if_false, goes, passes, any_head, any_tail, eq_of_not}
 use Rattle.forms.proofs.Checks.{beyond}
 use Rattle.rules.specs.Numbers.{bad_shape, call_checks}
-use Rattle.rules.specs.declared.Message.{Message}
-use Rattle.stock.specs.View.{Bytes, Outcome, bytes, telling, settling}
+use Rattle.rules.specs.Counted.{Counted}
+use Rattle.stock.specs.View.{Bytes, bytes, Ruling, made, asked}
+use Rattle.stock.proofs.Laws.{unchanged}
 use Rattle.stock.specs.declared.Record.{Record}
-use Rattle.stock.proofs.Laws as stock
 use Rattle.std.proofs.lemmas.List.{get_or_default}
 use Rattle.calls.specs.Parts.{Placed, part}
-use Rattle.book.specs.Lent.{Lent, lent, no_record, Given, bytes_of, call_number, calling, asking}
+use Rattle.book.specs.Lent.{Lent, lent, no_record, bytes_of, call_number, calling, CallsIn, asking}
 
 -- the call goes on, or the number stops it
 module _ (i n : ℕ) (b : Lent) where
@@ -56,48 +56,47 @@ module _ (i n : ℕ) (b : Lent) (is : n ≡ call_number i b) (zero : n ≡ 0) (d
 
 -- ------------------------------------------------------------------ what the call gives
 
-module _ {A : Type 0} (i n : ℕ) (step : Bytes → Outcome A) (beside : ℕ → A) (b : Lent) (a : A) where
+module _ {A : Type 0} (i n : ℕ) (rule : Ruling A) (beside : ℕ → A) (b : Lent) (a : A) where
+  -- what the record that the code read, its answer and the places come to
+  abbrev Came : Record → Record → List ℕ → List ℕ → Type 0
+  Came d kept times prices = Placed i (made rule beside (bytes (get_or b.records i d) (part i b.times) (part i b.prices))) b.times b.prices a kept times prices
+
+  its_own : n ≡ call_number i b → n ≡ 0 → (d kept : Record) (times prices : List ℕ) → Came d kept times prices
+      → Placed i (made rule beside (bytes_of i b)) b.times b.prices a kept times prices
+  its_own e t d kept times prices = subst (λ x. Placed i (made rule beside x) b.times b.prices a kept times prices) (own i n b e t d)
+
   -- the step's outcome in the stock's place
-  pub done_in : n ≡ call_number i b → n ≡ 0 → (d kept : Record) (times prices : List ℕ)
-      → Placed i (step (bytes (get_or b.records i d) (part i b.times) (part i b.prices))) b.times b.prices a kept times prices
-      → ◌≡◌ {A = Given A} (record { answer = a; book = lent (set b.records i kept) times prices }) (calling i step beside b)
+  pub done_in : n ≡ call_number i b → n ≡ 0 → (d kept : Record) (times prices : List ℕ) → Came d kept times prices
+      → CallsIn i (made rule beside) beside b a (lent (set b.records i kept) times prices)
   unfolding calling
   done_in e t d kept times prices q =
-      let p = subst (λ x. Placed i (step x) b.times b.prices a kept times prices) (own i n b e t d) q in
+      let p = its_own e t d kept times prices q in
       rw (if_true (eqb (call_number i b) 0) _ _ (goes_on i n b e t)) (rw p.answer (rw p.next (rw p.times (rw p.prices refl))))
 
-  -- a number with zeros beside it, and the book as it was
-  pub refused_in : n ≡ call_number i b → (n ≡ 0 → ⊥) → a ≡ beside n
-      → ◌≡◌ {A = Given A} (record { answer = a; book = b }) (calling i step beside b)
+  -- a number with nothing beside it, and the book as it was
+  pub refused_in : n ≡ call_number i b → (n ≡ 0 → ⊥) → a ≡ beside n → CallsIn i (made rule beside) beside b a b
   unfolding calling
   refused_in e t q = rw (if_false (eqb (call_number i b) 0) _ _ (stops i n b e t)) (rw q (rw e refl))
 
-  -- a step that leaves the bytes where it refuses leaves the record, which is not stored
-  pub kept_in : (number : A → ℕ) → ((x : Bytes) → ¬ (number (step x).answer ≡ 0) → (step x).bytes ≡ x) → n ≡ call_number i b → n ≡ 0
-      → (d kept : Record) (times prices : List ℕ)
-      → Placed i (step (bytes (get_or b.records i d) (part i b.times) (part i b.prices))) b.times b.prices a kept times prices → (number a ≡ 0 → ⊥)
-      → ◌≡◌ {A = Given A} (record { answer = a; book = lent b.records times prices }) (calling i step beside b)
-  kept_in number unchanged e t d kept times prices q z =
-      let p = subst (λ x. Placed i (step x) b.times b.prices a kept times prices) (own i n b e t d) q in
-      let refused : ¬ (number (step (bytes_of i b)).answer ≡ 0) = rw (← p.answer) z in
-      let same : kept ≡ get_or b.records i no_record = p.next ∙ ap (λ (x : Bytes). x.kept) (unchanged (bytes_of i b) refused) in
+  -- a refusal leaves the record, which is not stored
+  pub kept_in : (number : A → ℕ) → ((h : Counted) → number (rule.answer h) ≡ rule.number h) → n ≡ call_number i b → n ≡ 0
+      → (d kept : Record) (times prices : List ℕ) → Came d kept times prices → (number a ≡ 0 → ⊥)
+      → CallsIn i (made rule beside) beside b a (lent b.records times prices)
+  kept_in number numbered e t d kept times prices q z =
+      let p = its_own e t d kept times prices q in
+      let refused : ¬ (number (made rule beside (bytes_of i b)).answer ≡ 0) = rw (← p.answer) z in
+      let same : kept ≡ get_or b.records i no_record = p.next ∙ ap (λ (x : Bytes). x.kept) (unchanged rule beside (bytes_of i b) _ refl number numbered refused) in
       let stays : set b.records i kept ≡ b.records = rw same (set-get_or b.records i no_record) in
       ap (λ records. record { answer = a; book = lent records times prices }) (sym stays) ∙ done_in e t d kept times prices q
 
--- a refusal leaves every byte of the stock
-pub told_unchanged : (m : Message) (x : Bytes) → ¬ ((telling m x).answer.number ≡ 0) → (telling m x).bytes ≡ x
-told_unchanged m x = (stock.laws).told_refused m x (record { answer = (telling m x).answer; next = (telling m x).bytes.kept }) _ _ refl
-
-pub settled_unchanged : (time : ℕ) (x : Bytes) → ¬ ((settling time x).answer.answer.number ≡ 0) → (settling time x).bytes ≡ x
-settled_unchanged time x = (stock.laws).settled_refused time x (record { notice = (settling time x).answer; next = (settling time x).bytes.kept }) _ _ refl
-
 -- ------------------------------------------------------------------ what a call gives that changes nothing
 
-module _ {A : Type 0} (i n : ℕ) (given : Bytes → A) (beside : ℕ → A) (b : Lent) (a : A) where
-  pub asked_in : n ≡ call_number i b → n ≡ 0 → (d : Record) → a ≡ given (bytes (get_or b.records i d) (part i b.times) (part i b.prices)) → a ≡ asking i given beside b
+module _ {A : Type 0} (i n : ℕ) (given : Counted → A) (beside : ℕ → A) (b : Lent) (a : A) where
+  pub asked_in : n ≡ call_number i b → n ≡ 0 → (d : Record) → a ≡ asked given beside (bytes (get_or b.records i d) (part i b.times) (part i b.prices))
+      → a ≡ asking i (asked given beside) beside b
   unfolding asking
-  asked_in e t d q = goes (eqb (call_number i b) 0) a _ _ (goes_on i n b e t) (q ∙ ap given (own i n b e t d))
+  asked_in e t d q = goes (eqb (call_number i b) 0) a _ _ (goes_on i n b e t) (q ∙ ap (asked given beside) (own i n b e t d))
 
-  pub unasked_in : n ≡ call_number i b → (n ≡ 0 → ⊥) → a ≡ beside n → a ≡ asking i given beside b
+  pub unasked_in : n ≡ call_number i b → (n ≡ 0 → ⊥) → a ≡ beside n → a ≡ asking i (asked given beside) beside b
   unfolding asking
   unasked_in e t q = passes (eqb (call_number i b) 0) a _ _ (stops i n b e t) (rw e at q)

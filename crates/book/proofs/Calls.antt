@@ -12,10 +12,9 @@ use lib.Seq.{get_or-set_same, get_or-set_other, set-get_or}
 use Rattle.forms.proofs.Choice.{if_arms, any_head, any_tail, eq_of_not}
 use Rattle.forms.proofs.Checks.{passed}
 use Rattle.rules.specs.Numbers.{bad_shape, call_checks, zeros, no_notice}
-use Rattle.rules.specs.declared.Answer.{Answer}
 use Rattle.rules.specs.declared.Message.{Message}
-use Rattle.rules.specs.declared.Notice.{Notice}
-use Rattle.stock.specs.View.{Bytes, shaped, Outcome, telling, settling}
+use Rattle.rules.proofs.Answers.{told_number, settled_number}
+use Rattle.stock.specs.View.{Bytes, shaped, Outcome, told_by, telling, settled_by, settling}
 use Rattle.stock.proofs.Laws as stock
 use Rattle.calls.specs.Parts.{part}
 use Rattle.calls.proofs.Parts.{part_put, part_put_other, put_part, length_put}
@@ -122,35 +121,23 @@ module _ {A : Type 0} (i : ℕ) (step : Bytes → Outcome A) (beside : ℕ → A
 
 -- ------------------------------------------------------------------ telling and settling
 
--- a stock's laws of what its step leaves, where the outcome itself is the result
-module _ (i : ℕ) (m : Message) (b : Lent) where
-  abbrev o : Outcome Answer
-  o = telling m (bytes_of i b)
+-- a stock's law of what its step leaves, of the outcome itself
+told_shaped : (m : Message) (x : Bytes) → shaped (telling m x).bytes ≡ shaped x
+told_shaped m x = (stock.laws).told_in_shape m x (record { answer = (telling m x).answer; next = (telling m x).bytes.kept }) _ _ refl
 
-  told_left : (o.answer.number ≡ 0 → ⊥) → o.bytes ≡ bytes_of i b
-  told_left = (stock.laws).told_refused m (bytes_of i b) (record { answer = o.answer; next = o.bytes.kept }) o.bytes.times o.bytes.prices refl
-
-  told_shaped : shaped o.bytes ≡ shaped (bytes_of i b)
-  told_shaped = (stock.laws).told_in_shape m (bytes_of i b) (record { answer = o.answer; next = o.bytes.kept }) o.bytes.times o.bytes.prices refl
-
-module _ (i time : ℕ) (b : Lent) where
-  abbrev n : Outcome Notice
-  n = settling time (bytes_of i b)
-
-  settled_left : (n.answer.answer.number ≡ 0 → ⊥) → n.bytes ≡ bytes_of i b
-  settled_left = (stock.laws).settled_refused time (bytes_of i b) (record { notice = n.answer; next = n.bytes.kept }) n.bytes.times n.bytes.prices refl
-
-  settled_shaped : shaped n.bytes ≡ shaped (bytes_of i b)
-  settled_shaped = (stock.laws).settled_in_shape time (bytes_of i b) (record { notice = n.answer; next = n.bytes.kept }) n.bytes.times n.bytes.prices refl
+settled_shaped : (time : ℕ) (x : Bytes) → shaped (settling time x).bytes ≡ shaped x
+settled_shaped time x = (stock.laws).settled_in_shape time x (record { answer = (settling time x).answer; next = (settling time x).bytes.kept }) _ _ refl
 
 pub told_refused : ToldRefused
-told_refused i m b r b' e = refused i (telling m) zeros b (record { answer = r; book = b' }) e (λ a. a.number) (told_left i m b)
+told_refused i m b r b' e = refused i (telling m) zeros b _ e (λ a. a.number) (stock.unchanged (told_by m) zeros (bytes_of i b) _ refl (λ a. a.number) (told_number m))
 
 pub settled_refused : SettledRefused
-settled_refused i time b r b' e = refused i (settling time) no_notice b (record { answer = r; book = b' }) e (λ a. a.answer.number) (settled_left i time b)
+settled_refused i time b r b' e =
+    refused i (settling time) no_notice b _ e (λ a. a.answer.number)
+    (stock.unchanged (settled_by time) no_notice (bytes_of i b) _ refl (λ a. a.answer.number) (settled_number time))
 
 pub told_touches : ToldTouches
-told_touches i m b r b' e = touches i (telling m) zeros b (record { answer = r; book = b' }) e (told_shaped i m b)
+told_touches i m b r b' e = touches i (telling m) zeros b _ e (told_shaped m (bytes_of i b))
 
 pub settled_touches : SettledTouches
-settled_touches i time b r b' e = touches i (settling time) no_notice b (record { answer = r; book = b' }) e (settled_shaped i time b)
+settled_touches i time b r b' e = touches i (settling time) no_notice b _ e (settled_shaped time (bytes_of i b))

@@ -12,13 +12,12 @@ use lib.Seq.{set-get_or}
 use Rattle.forms.specs.Choice.{if◌then◌otherwise◌}
 use Rattle.forms.specs.Checks.{first}
 use Rattle.forms.proofs.Choice.{if_true, if_false, any_not, any_empty, eq_not}
-use Rattle.rules.specs.Counted.{Counted, fire, after, tells, settles, tell_answer, settle_answer, read_answer, next_answer, no_summary, totals_answer}
-use Rattle.rules.specs.Machine.{Every, tell, settle, stock, number_in, step_in}
+use Rattle.rules.specs.Counted.{Counted, fire, after, tells, settles, read_answer, next_answer, no_summary, totals_answer}
+use Rattle.rules.specs.Machine.{Every, Call, tell, settle, number, done, stock, number_in, step_in}
 use Rattle.rules.specs.Book.{counting, blank, book_tells, book_settles, book_reads, book_next, book_totals}
 use Rattle.rules.specs.Numbers.{bad_shape, call_checks, zeros, no_notice, none_coming}
 use Rattle.rules.specs.declared.Message.{Message}
-use Rattle.stock.specs.View.{Bytes, reading, coming, lay, Outcome, telling, settling, shaped, totalling}
-use Rattle.stock.proofs.Laws as stocks
+use Rattle.stock.specs.View.{Bytes, lay, Outcome, Ruling, made, told_by, telling, settled_by, settling, asked}
 use Rattle.book.specs.Lent.{bytes_of, call_number, calling, asking, reading_in, coming_in, totalling_in}
 use Rattle.book.specs.Layout.{stock_bytes, layout}
 use Rattle.book.proofs.Layouts.{Fits, in_shape_lem, lay_again, read_again, length_records, length_times, length_prices, bytes_of_lem, with_bytes_lem}
@@ -37,28 +36,14 @@ module _ (h : Counted) (f : Fits h) where
       go true q = simp (q, if_true) (lay_again h f h' (k (eqb-true n 0 q)))
       go false q = simp (q, if_false)
 
-  pub telling_is : (m : Message) → (tells m h ≡ 0 → Fits (after m h)) → telling m (stock_bytes h) ≡ Stepped h (tell_answer m h) (tells m h) (after m h)
-  unfolding telling
-  telling_is m k =
-      ap (λ c. if shaped (stock_bytes h) then record { answer = tell_answer m c; bytes = if eqb (tells m c) 0 then lay (after m c) (stock_bytes h) otherwise stock_bytes h }
-      otherwise record { answer = zeros 1; bytes = stock_bytes h }) (read_again h)
-      ∙ simp (in_shape_lem h f, if_true) (ap (λ x. record { answer = tell_answer m h; bytes = x }) (laid (tells m h) (after m h) k))
+  pub made_is : {A : Type 0} (rule : Ruling A) (beside : ℕ → A) → (rule.number h ≡ 0 → Fits (rule.next h))
+      → made rule beside (stock_bytes h) ≡ Stepped h (rule.answer h) (rule.number h) (rule.next h)
+  unfolding made
+  made_is rule beside k = simp (in_shape_lem h f, if_true, read_again) (ap (λ x. record { answer = rule.answer h; bytes = x }) (laid (rule.number h) (rule.next h) k))
 
-  pub settling_is : (time : ℕ) → (settles time h ≡ 0 → Fits (fire h)) → settling time (stock_bytes h) ≡ Stepped h (settle_answer time h) (settles time h) (fire h)
-  unfolding settling
-  settling_is time k =
-      ap (λ c. if shaped (stock_bytes h) then record { answer = settle_answer time c; bytes = if eqb (settles time c) 0 then lay (fire c) (stock_bytes h) otherwise stock_bytes h }
-      otherwise record { answer = no_notice 1; bytes = stock_bytes h }) (read_again h)
-      ∙ simp (in_shape_lem h f, if_true) (ap (λ x. record { answer = settle_answer time h; bytes = x }) (laid (settles time h) (fire h) k))
-
-reading_is : (h : Counted) → Fits h → reading (stock_bytes h) ≡ read_answer h
-reading_is h f = ((stocks.laws).read_by_the_rules (stock_bytes h)).0 (in_shape_lem h f) ∙ ap read_answer (read_again h)
-
-coming_is : (h : Counted) → Fits h → coming (stock_bytes h) ≡ next_answer h
-coming_is h f = ((stocks.laws).next_by_the_rules (stock_bytes h)).0 (in_shape_lem h f) ∙ ap next_answer (read_again h)
-
-totalling_is : (h : Counted) → Fits h → totalling (stock_bytes h) ≡ totals_answer h
-totalling_is h f = ((stocks.laws).totals_by_the_rules (stock_bytes h)).0 (in_shape_lem h f) ∙ ap totals_answer (read_again h)
+  asked_is : {A : Type 0} (own : Counted → A) (beside : ℕ → A) → asked own beside (stock_bytes h) ≡ own h
+  unfolding asked
+  asked_is own beside = simp (in_shape_lem h f, if_true) (ap own (read_again h))
 
 -- ------------------------------------------------------------------ a book of 1 to 64 stocks
 
@@ -105,64 +90,71 @@ module _ (end : ℕ) (hs : List Counted) (all : Every Fits hs) (some : 1 ≤ len
         let z : call_number i (layout hs) ≡ 3 = number_is i ∙ first_number i ∙ simp (le-ltb i (length hs) l, if_false) in
         simp (z, ne_eqb 3 0 (λ e. omega arith), if_false)
 
+  -- a call by the rule of `it`
+  step_follows : {A : Type 0} (rule : Ruling A) (beside : ℕ → A) (it : Call Message) → rule.number ≡ number counting it → rule.next ≡ done counting it
+      → (i : ℕ) → (i < length hs → rule.number (stock counting (blank end) hs i) ≡ 0 → Fits (rule.next (stock counting (blank end) hs i)))
+      → (i < length hs → Fits (stock counting (blank end) hs i))
+      → calling i (made rule beside) beside (layout hs)
+      ≡ record {
+        answer = (let number = first (call_checks (length hs) places places i) in if eqb number 0 then rule.answer (stock counting (blank end) hs i) otherwise beside number);
+        book = layout (step_in counting (blank end) hs (record { at = i; it = it }));
+      }
+  unfolding step_in number_in
+  step_follows rule beside it e d i k f = rw (← e, ← d) (go (ltb i (length hs)) refl)
+    where
+      go : (b : Bool) → ltb i (length hs) ≡ b → calling i (made rule beside) beside (layout hs)
+          ≡ record {
+            answer = (let number = first (call_checks (length hs) places places i) in if eqb number 0 then rule.answer (stock counting (blank end) hs i) otherwise beside number);
+            book = layout (let n = if ltb i (length hs) then rule.number (stock counting (blank end) hs i) otherwise 3 in if eqb n 0 then set hs i (rule.next (stock counting (blank end) hs i)) otherwise hs);
+          }
+      go true q =
+          let l = ltb-true _ _ q in
+          let h = stock counting (blank end) hs i in
+          simp (first_number i, q, if_true, eq-eqb 0 0 refl) (called i (made rule beside) beside (rule.answer h) (rule.number h) (rule.next h) l (made_is h (f l) rule beside (k l)))
+      go false q = simp (first_number i, q, if_false, ne_eqb 3 0 (λ e. omega arith)) (absent i (made rule beside) beside (ltb-false _ _ q))
+
   -- telling stock i a message
   pub tell_follows : (i : ℕ) (m : Message) → (i < length hs → tells m (stock counting (blank end) hs i) ≡ 0 → Fits (after m (stock counting (blank end) hs i)))
       → (i < length hs → Fits (stock counting (blank end) hs i))
       → calling i (telling m) zeros (layout hs)
       ≡ record { answer = book_tells end hs places places i m; book = layout (step_in counting (blank end) hs (record { at = i; it = tell m })) }
-  unfolding book_tells step_in number_in
-  tell_follows i m k f = go (ltb i (length hs)) refl
-    where
-      go : (b : Bool) → ltb i (length hs) ≡ b → calling i (telling m) zeros (layout hs)
-          ≡ record { answer = book_tells end hs places places i m; book = layout (step_in counting (blank end) hs (record { at = i; it = tell m })) }
-      go true q =
-          let l = ltb-true _ _ q in
-          let h = stock counting (blank end) hs i in
-          simp (first_number i, q, if_true, eq-eqb 0 0 refl) (called i (telling m) zeros (tell_answer m h) (tells m h) (after m h) l (telling_is h (f l) m (k l)))
-      go false q = simp (first_number i, q, if_false, ne_eqb 3 0 (λ e. omega arith)) (absent i (telling m) zeros (ltb-false _ _ q))
+  unfolding book_tells
+  tell_follows i m = step_follows (told_by m) zeros (tell m) refl refl i
 
   -- settling it to a time
   pub settle_follows : (i time : ℕ) → (i < length hs → settles time (stock counting (blank end) hs i) ≡ 0 → Fits (fire (stock counting (blank end) hs i)))
       → (i < length hs → Fits (stock counting (blank end) hs i))
       → calling i (settling time) no_notice (layout hs)
       ≡ record { answer = book_settles end hs places places i time; book = layout (step_in counting (blank end) hs (record { at = i; it = settle time })) }
-  unfolding book_settles step_in number_in
-  settle_follows i time k f = go (ltb i (length hs)) refl
-    where
-      go : (b : Bool) → ltb i (length hs) ≡ b → calling i (settling time) no_notice (layout hs)
-          ≡ record { answer = book_settles end hs places places i time; book = layout (step_in counting (blank end) hs (record { at = i; it = settle time })) }
-      go true q =
-          let l = ltb-true _ _ q in
-          let h = stock counting (blank end) hs i in
-          simp (first_number i, q, if_true, eq-eqb 0 0 refl) (called i (settling time) no_notice (settle_answer time h) (settles time h) (fire h) l (settling_is h (f l) time (k l)))
-      go false q = simp (first_number i, q, if_false, ne_eqb 3 0 (λ e. omega arith)) (absent i (settling time) no_notice (ltb-false _ _ q))
+  unfolding book_settles
+  settle_follows i time = step_follows (settled_by time) no_notice (settle time) refl refl i
 
   -- a call that changes nothing
-  ask_follows : {A : Type 0} (given : Bytes → A) (own : Counted → A) (beside : ℕ → A) → ((h : Counted) → Fits h → given (stock_bytes h) ≡ own h)
+  ask_follows : {A : Type 0} (own : Counted → A) (beside : ℕ → A)
       → (i : ℕ) → (i < length hs → Fits (stock counting (blank end) hs i))
-      → asking i given beside (layout hs)
+      → asking i (asked own beside) beside (layout hs)
       ≡ (let number = first (call_checks (length hs) places places i) in if eqb number 0 then own (stock counting (blank end) hs i) otherwise beside number)
   unfolding asking
-  ask_follows given own beside is i f = go (ltb i (length hs)) refl
+  ask_follows own beside i f = go (ltb i (length hs)) refl
     where
-      go : (b : Bool) → ltb i (length hs) ≡ b → asking i given beside (layout hs)
+      go : (b : Bool) → ltb i (length hs) ≡ b → asking i (asked own beside) beside (layout hs)
           ≡ (let number = first (call_checks (length hs) places places i) in if eqb number 0 then own (stock counting (blank end) hs i) otherwise beside number)
       go true q =
           let l = ltb-true i (length hs) q in
           let z : call_number i (layout hs) ≡ 0 = number_is i ∙ first_number i ∙ simp (q, if_true) in
-          simp (z, first_number i, q, eq-eqb 0 0 refl, if_true) (ap given (bytes_of_lem hs all i l (blank end)) ∙ is _ (f l))
+          simp (z, first_number i, q, eq-eqb 0 0 refl, if_true) (ap (asked own beside) (bytes_of_lem hs all i l (blank end)) ∙ asked_is _ (f l) own beside)
       go false q =
           let z : call_number i (layout hs) ≡ 3 = number_is i ∙ first_number i ∙ simp (q, if_false) in
           simp (z, first_number i, q, ne_eqb 3 0 (λ e. omega (arith, e)), if_false)
 
   pub read_follows : (i : ℕ) → (i < length hs → Fits (stock counting (blank end) hs i)) → reading_in i (layout hs) ≡ book_reads end hs places places i
   unfolding book_reads
-  read_follows = ask_follows reading read_answer zeros reading_is
+  read_follows = ask_follows read_answer zeros
 
   pub next_follows : (i : ℕ) → (i < length hs → Fits (stock counting (blank end) hs i)) → coming_in i (layout hs) ≡ book_next end hs places places i
   unfolding book_next
-  next_follows = ask_follows coming next_answer none_coming coming_is
+  next_follows = ask_follows next_answer none_coming
 
   pub totals_follows : (i : ℕ) → (i < length hs → Fits (stock counting (blank end) hs i)) → totalling_in i (layout hs) ≡ book_totals end hs places places i
   unfolding book_totals
-  totals_follows = ask_follows totalling totals_answer no_summary totalling_is
+  totals_follows = ask_follows totals_answer no_summary

@@ -3,7 +3,7 @@
 use Rattle.forms.proofs.Promises.{agree}
 use Rattle.rules.specs.Numbers.{zeros, no_notice}
 use Rattle.stock.specs.View.{telling, settling}
-use Rattle.book.specs.Lent.{calling, reading_in, coming_in, totalling_in}
+use Rattle.book.specs.Lent.{calling, asking, reading_in, coming_in, totalling_in}
 use Rattle.book.specs.Setup.{setting}
 use Rattle.book.specs.Laws.{Laws}
 use Rattle.book.proofs.Calls.{let_through, written, of_others, leaves, told_refused, settled_refused, told_touches, settled_touches}
@@ -33,6 +33,8 @@ laws = record {
   set_up_one = SettingUp.one;
   set_up_starts = SettingUp.starts;
   set_up_refused = SettingUp.left;
+  step_determined = λ i step beside b. agree (calling i step beside b);
+  ask_determined = λ i given beside b. agree (asking i given beside b);
   tell_determined = λ i m b. agree (calling i (telling m) zeros b);
   settle_determined = λ i time b. agree (calling i (settling time) no_notice b);
   read_determined = λ i b. agree (reading_in i b);

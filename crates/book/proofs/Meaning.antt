@@ -6,22 +6,22 @@ use mathlib.Core.List.{List}
 use mathlib.Core.Path.{◌≡◌, refl, sym, ap, ◌∙◌, subst}
 use native.Mathlib.Omega.{arith}
 use borrow.Author.Tests.{ltb-true, ltb-false, eq-eqb, ne_eqb}
-use lib.Dec.{ltb}
+use lib.Dec.{ltb, eqb}
 use lib.ListN.{length, get_or, get_or-eq_default}
 use lib.Seq.{ext_get_or}
+use Rattle.forms.specs.Choice.{if◌then◌otherwise◌}
 use Rattle.forms.specs.Words.{Number, Gives}
 use Rattle.forms.proofs.Choice.{if_true, if_false}
 use Rattle.forms.proofs.Decides.{take, skip}
 use Rattle.rules.specs.Stock.{Trade}
-use Rattle.rules.specs.Counted.{Counted, after_telling, after_settling, tell_answer, settle_answer, read_answer, next_answer, no_summary, totals_answer}
+use Rattle.rules.specs.Counted.{Counted, after_telling, after_settling, read_answer, next_answer, no_summary, totals_answer}
 use Rattle.rules.specs.Numbers.{zeros, no_notice, none_coming}
-use Rattle.rules.specs.declared.Message.{Message}
 use Rattle.rules.proofs.Answers.{Called, wrong_shape, no_stock, there, called}
-use Rattle.stock.specs.View.{Bytes, view, shaped, Outcome, telling, settling, reading, coming, totalling}
+use Rattle.stock.specs.View.{view, shaped, Ruling, made, told_by, settled_by, asked}
 use Rattle.stock.proofs.Laws as stock
 use Rattle.calls.specs.Parts.{part}
 use Rattle.calls.proofs.Parts.{part_is}
-use Rattle.book.specs.Lent.{Lent, bytes_of, Given, call_number, calling, asking}
+use Rattle.book.specs.Lent.{Lent, bytes_of, Given, call_number, calling, CallsIn, asking}
 use Rattle.book.specs.Words.{record_at, no_trade, Means, InShape, call_table}
 use Rattle.book.specs.Laws.{LentIs, OneMeaning, Touched, AnsweredBy, ToldByTheRules, SettledByTheRules, ReadByTheRules, NextByTheRules, TotalsByTheRules}
 use Rattle.book.proofs.Calls.{let_through, bytes_shaped, told_touches, settled_touches}
@@ -134,61 +134,55 @@ in_parts i b e = bytes_shaped i b (let_through i b e)
 
 -- ------------------------------------------------------------------ telling and settling
 
--- what a step answers of a stock's bytes, and what these mean then, is the rules' of what they meant
-abbrev ByTheRules : {A : Type 0} → (Bytes → Outcome A) → (Counted → A) → (Counted → Counted) → Type 0
-ByTheRules step own next = (x : Bytes) → shaped x ≡ true → ((step x).answer ≡ own (view x)) × (view (step x).bytes ≡ next (view x))
+-- a call by a rule
+module _ {A : Type 0} (i : ℕ) (rule : Ruling A) (beside : ℕ → A) (b : Lent) (r : A) (b' : Lent) (e : CallsIn i (made rule beside) beside b r b')
+    (touched : Touched i (made rule beside (bytes_of i b)).bytes b b') (h : Counted) (p : Means i b h) where
+  abbrev next : Counted → Counted
+  next h = if eqb (rule.number h) 0 then rule.next h otherwise h
 
-module _ {A : Type 0} (i : ℕ) (step : Bytes → Outcome A) (beside : ℕ → A) (b : Lent) (own : Counted → A) (next : Counted → Counted)
-    (rules : ByTheRules step own next) (r : A) (b' : Lent) (e : ◌≡◌ {A = Given A} (record { answer = r; book = b' }) (calling i step beside b))
-    (touched : Touched i (step (bytes_of i b)).bytes b b') (h : Counted) (p : Means i b h) where
   is : h ≡ view (bytes_of i b)
   is = (one_meaning i b h).0 p
 
-  then_means : call_number i b ≡ 0 → Means i b' (next h)
-  then_means z =
-      (one_meaning i b' (next h)).1 (ap next is ∙ sym (rules (bytes_of i b) (in_parts i b z)).1 ∙ ap view (sym (touched.own z)))
+  rules : call_number i b ≡ 0
+      → ((made rule beside (bytes_of i b)).answer ≡ rule.answer (view (bytes_of i b))) × (view (made rule beside (bytes_of i b)).bytes ≡ next (view (bytes_of i b)))
+  rules z = stock.by_the_rules rule beside (bytes_of i b) _ refl (in_parts i b z)
 
-  by_the_rules : AnsweredBy i b r (own h) beside × (InShape b → i < length b.records → Means i b' (next h))
+  then_means : call_number i b ≡ 0 → Means i b' (next h)
+  then_means z = (one_meaning i b' (next h)).1 (ap next is ∙ sym (rules z).1 ∙ ap view (sym (touched.own z)))
+
+  by_the_rules : AnsweredBy i b r (rule.answer h) beside × (InShape b → i < length b.records → Means i b' (next h))
   unfolding calling
   by_the_rules = (
-    answered_by i b (own h) beside r
-        (λ z. ap (λ (g : Given A). g.answer) (e ∙ if_true _ _ _ (eq-eqb _ 0 z)) ∙ (rules (bytes_of i b) (in_parts i b z)).0 ∙ ap own (sym is))
+    answered_by i b (rule.answer h) beside r
+        (λ z. ap (λ (g : Given A). g.answer) (e ∙ if_true _ _ _ (eq-eqb _ 0 z)) ∙ (rules z).0 ∙ ap rule.answer (sym is))
         (λ n. ap (λ (g : Given A). g.answer) (e ∙ if_false _ _ _ (ne_eqb _ 0 n))),
     (λ s l. then_means (let_in i b s l)),
   )
 
--- a stock's laws, where the outcome itself is the result
-told_rules : (m : Message) → ByTheRules (telling m) (tell_answer m) (after_telling m)
-told_rules m x = let o = telling m x in
-    (stock.laws).told_by_the_rules m x (record { answer = o.answer; next = o.bytes.kept }) o.bytes.times o.bytes.prices refl
-
-settled_rules : (time : ℕ) → ByTheRules (settling time) (settle_answer time) (after_settling time)
-settled_rules time x = let o = settling time x in
-    (stock.laws).settled_by_the_rules time x (record { notice = o.answer; next = o.bytes.kept }) o.bytes.times o.bytes.prices refl
-
 pub told_by_the_rules : ToldByTheRules
-told_by_the_rules i m b r b' h e p = by_the_rules i (telling m) zeros b (tell_answer m) (after_telling m) (told_rules m) r b' e (told_touches i m b r b' e) h p
+unfolding after_telling
+told_by_the_rules i m b r b' h e = by_the_rules i (told_by m) zeros b r b' e (told_touches i m b r b' e) h
 
 pub settled_by_the_rules : SettledByTheRules
-settled_by_the_rules i time b r b' h e p =
-    by_the_rules i (settling time) no_notice b (settle_answer time) (after_settling time) (settled_rules time) r b' e (settled_touches i time b r b' e) h p
+unfolding after_settling
+settled_by_the_rules i time b r b' h e = by_the_rules i (settled_by time) no_notice b r b' e (settled_touches i time b r b' e) h
 
 -- ------------------------------------------------------------------ reading, what comes next, and the totals
 
-asked_by_the_rules : {A : Type 0} (given : Bytes → A) (own : Counted → A) (beside : ℕ → A) → ((x : Bytes) → shaped x ≡ true → given x ≡ own (view x))
-    → (i : ℕ) (b : Lent) (h : Counted) → Means i b h → AnsweredBy i b (asking i given beside b) (own h) beside
+asked_by_the_rules : {A : Type 0} (own : Counted → A) (beside : ℕ → A)
+    → (i : ℕ) (b : Lent) (h : Counted) → Means i b h → AnsweredBy i b (asking i (asked own beside) beside b) (own h) beside
 unfolding asking
-asked_by_the_rules given own beside rules i b h p =
+asked_by_the_rules own beside i b h p =
     let is : h ≡ view (bytes_of i b) = (one_meaning i b h).0 p in
-    answered_by i b (own h) beside (asking i given beside b)
-    (λ z. if_true _ _ _ (eq-eqb _ 0 z) ∙ rules (bytes_of i b) (in_parts i b z) ∙ ap own (sym is))
+    answered_by i b (own h) beside (asking i (asked own beside) beside b)
+    (λ z. if_true _ _ _ (eq-eqb _ 0 z) ∙ (stock.given_by own beside (bytes_of i b)).0 (in_parts i b z) ∙ ap own (sym is))
     (λ n. if_false _ _ _ (ne_eqb _ 0 n))
 
 pub read_by_the_rules : ReadByTheRules
-read_by_the_rules = asked_by_the_rules reading read_answer zeros (λ x. ((stock.laws).read_by_the_rules x).0)
+read_by_the_rules = asked_by_the_rules read_answer zeros
 
 pub next_by_the_rules : NextByTheRules
-next_by_the_rules = asked_by_the_rules coming next_answer none_coming (λ x. ((stock.laws).next_by_the_rules x).0)
+next_by_the_rules = asked_by_the_rules next_answer none_coming
 
 pub totals_by_the_rules : TotalsByTheRules
-totals_by_the_rules = asked_by_the_rules totalling totals_answer no_summary (λ x. ((stock.laws).totals_by_the_rules x).0)
+totals_by_the_rules = asked_by_the_rules totals_answer no_summary

@@ -311,7 +311,7 @@ pub data MadeOne : Type 0 where
 abbrev pub OneChain : Bytes → List MadeOne → Bytes → Type 0
 OneChain x [] x' = x ≡ x'
 OneChain x (told_one m a ∷ cs) x' = (c : Bytes) × Tells m x (record { answer = a; next = c.kept }) c.times c.prices × OneChain c cs x'
-OneChain x (settled_one time a ∷ cs) x' = (c : Bytes) × Settles time x (record { notice = a; next = c.kept }) c.times c.prices × OneChain c cs x'
+OneChain x (settled_one time a ∷ cs) x' = (c : Bytes) × Settles time x (record { answer = a; next = c.kept }) c.times c.prices × OneChain c cs x'
 
 -- the stock of the rules after such calls; and that each is answered as the rules answer it
 abbrev pub left_one : Counted → List MadeOne → Counted

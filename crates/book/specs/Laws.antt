@@ -15,7 +15,7 @@ use Rattle.stock.specs.View.{Bytes, view, shaped, Outcome, telling, settling}
 use Rattle.stock.specs.declared.Record.{Record}
 use Rattle.calls.specs.Setup.{setups_of}
 use Rattle.calls.specs.Words.{setup_in}
-use Rattle.book.specs.Lent.{Lent, lent, bytes_of, with_bytes, Given, call_number, calling, TellsIn, SettlesIn, reading_in, coming_in, totalling_in}
+use Rattle.book.specs.Lent.{Lent, lent, bytes_of, with_bytes, Given, call_number, calling, CallsIn, TellsIn, SettlesIn, asking, reading_in, coming_in, totalling_in}
 use Rattle.book.specs.Words.{Means, UnusedAre0, LaidOut, InShape}
 use Rattle.book.specs.Setup.{SetsUp}
 use Rattle.book.specs.Layout.{layout}
@@ -154,6 +154,8 @@ pub record Laws : Type 1 where
   pub set_up_starts : SetUpStarts
   pub set_up_refused : SetUpRefused
   -- two results that a promise allows agree, in the answer and in every byte of the book
+  pub step_determined : {A : Type 0} → (i : ℕ) (step : Bytes → Outcome A) (beside : ℕ → A) (b : Lent) → Determines (λ (x : Given A). CallsIn i step beside b x.answer x.book)
+  pub ask_determined : {A : Type 0} → (i : ℕ) (given : Bytes → A) (beside : ℕ → A) (b : Lent) → Determines (λ (x : A). x ≡ asking i given beside b)
   pub tell_determined : (i : ℕ) (m : Message) (b : Lent) → Determines (λ (x : Given Answer). TellsIn i m b x.answer x.book)
   pub settle_determined : (i time : ℕ) (b : Lent) → Determines (λ (x : Given Notice). SettlesIn i time b x.answer x.book)
   pub read_determined : (i : ℕ) (b : Lent) → Determines (λ (r : Answer). r ≡ reading_in i b)

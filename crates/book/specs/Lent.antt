@@ -55,13 +55,17 @@ calling i step beside b =
     if eqb (call_number i b) 0 then record { answer = (step (bytes_of i b)).answer; book = with_bytes i (step (bytes_of i b)).bytes b } otherwise
     record { answer = beside (call_number i b); book = b }
 
+-- the promise of a call on stock i
+abbrev pub CallsIn : {A : Type 0} → ℕ → (Bytes → Outcome A) → (ℕ → A) → Lent → A → Lent → Type 0
+CallsIn {A} i step beside b r b' = ◌≡◌ {A = Given A} (record { answer = r; book = b' }) (calling i step beside b)
+
 -- the promise of telling stock i a message
 abbrev pub TellsIn : ℕ → Message → Lent → Answer → Lent → Type 0
-TellsIn i m b r b' = ◌≡◌ {A = Given Answer} (record { answer = r; book = b' }) (calling i (telling m) zeros b)
+TellsIn i m = CallsIn i (telling m) zeros
 
 -- the promise of settling stock i to a time
 abbrev pub SettlesIn : ℕ → ℕ → Lent → Notice → Lent → Type 0
-SettlesIn i time b r b' = ◌≡◌ {A = Given Notice} (record { answer = r; book = b' }) (calling i (settling time) no_notice b)
+SettlesIn i time = CallsIn i (settling time) no_notice
 
 -- a call on stock i that changes nothing: what its bytes give, or a number with zeros beside it
 unfoldable pub asking : {A : Type 0} → ℕ → (Bytes → A) → (ℕ → A) → Lent → A

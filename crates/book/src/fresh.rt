@@ -9,9 +9,7 @@ pub(crate) fn fill(book: &mut [Record], list: &[u32], end: u32)
     requires { length list.now ≡ 4 * length book.old }
     ensures { book.new ≡ map (record_of end) (setups_of list.now) }
 {
-    let mut i = 0usize;
-    while i < book.len() {
-        book[i] = calls::started_at(list, end, i);
-        i += 1;
+    for (i, r) in book.iter_mut().enumerate() {
+        *r = calls::started_at(list, end, i);
     }
 }

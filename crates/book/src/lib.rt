@@ -1,34 +1,25 @@
 // The book: the caller lends an array of stock records and two arrays, trade times and trade prices, in which each
-// stock owns 512 places. `tell_one` and `settle_one` take one record with its part of both arrays instead. No
-// public function has a `requires`: for any bytes the promise gives the answer and every byte that the call leaves.
+// stock owns 512 places. `step_one` takes one record with its part of both arrays instead. No public function has a
+// `requires`: for any bytes the promise gives the answer and every byte that the call leaves.
 #![tactic(auto)]
 
 ghost use Rattle.std.specs.Prelude.{◌≡◌};
-ghost use Rattle.stock.specs.View.{bytes, Tells, Settles};
-ghost use Rattle.book.specs.Lent.{lent, TellsIn, SettlesIn, reading_in, coming_in, totalling_in};
+ghost use Rattle.stock.specs.View.{bytes, made, Leaves, asked};
+ghost use Rattle.book.specs.Lent.{lent, CallsIn, asking};
 ghost use Rattle.book.specs.Setup.{SetsUp};
 
-use rules::{Answer, DONE, Message, Notice, Summary, Upcoming};
-use stock::Record;
+use rules::{Answer, DONE};
+use stock::{Asked, Record, Reply, Step};
 
 mod fresh;
 
-// Tells the stock of a lent record a message.
-pub fn tell_one(r: &mut Record, times: &mut [u32], prices: &mut [u32], message: Message) -> Answer
-    ensures { Tells message (bytes r.old times.old prices.old) (record { answer = result; next = r.new }) times.new prices.new }
+// Takes a step of the stock of a lent record.
+pub fn step_one<S: Step>(r: &mut Record, times: &mut [u32], prices: &mut [u32], step: S) -> S::Given
+    ensures { Leaves (made (S.rule step) S.Given.beside (bytes r.old times.old prices.old)) (record { answer = result; next = r.new }) times.new prices.new }
 {
-    let d = (*r).tell(times, prices, message);
+    let d = step.step(*r, times, prices);
     *r = d.next;
     d.answer
-}
-
-// Settles the stock of a lent record to a time.
-pub fn settle_one(r: &mut Record, times: &mut [u32], prices: &mut [u32], time: u32) -> Notice
-    ensures { Settles time (bytes r.old times.old prices.old) (record { notice = result; next = r.new }) times.new prices.new }
-{
-    let d = (*r).settle(times, prices, time);
-    *r = d.next;
-    d.notice
 }
 
 // Sets up every stock: writes its record from its four numbers of the list (tier, leverage, primary, close), and
@@ -52,86 +43,38 @@ pub fn setup(
     answer
 }
 
-// Tells a stock of the lent book a message.
-pub fn tell(
+// Takes a step of a stock of the lent book.
+pub fn step<S: Step>(
     book: &mut [Record],
     times: &mut [u32],
     prices: &mut [u32],
     stock: u32,
-    message: Message,
-) -> Answer
-    ensures { TellsIn stock message (lent book.old times.old prices.old) result (lent book.new times.new prices.new) }
+    step: S,
+) -> S::Given
+    ensures { CallsIn stock (made (S.rule step) S.Given.beside) S.Given.beside (lent book.old times.old prices.old) result (lent book.new times.new prices.new) }
 {
     let i = stock as usize;
-    let number = calls::call_number(book.len(), times.len(), prices.len(), i);
-    if number != DONE {
-        return stock::zeros(number);
+    match calls::call_refusal(book.len(), times.len(), prices.len(), i) {
+        Ok(()) => {
+            let d = calls::step_at(book[i], times, prices, stock, step);
+            let answer = d.answer;
+            if S::number(answer) != DONE {
+                return answer;
+            }
+            book[i] = d.next;
+            answer
+        }
+        Err(why) => S::Given::beside(why as u32),
     }
-    let d = calls::told_at(book[i], times, prices, stock, message);
-    let answer = d.answer;
-    if answer.number != DONE {
-        return answer;
-    }
-    book[i] = d.next;
-    answer
 }
 
-// Settles a stock of the lent book to a time.
-pub fn settle(
-    book: &mut [Record],
-    times: &mut [u32],
-    prices: &mut [u32],
-    stock: u32,
-    time: u32,
-) -> Notice
-    ensures { SettlesIn stock time (lent book.old times.old prices.old) result (lent book.new times.new prices.new) }
+// Asks a stock of the lent book, and changes nothing.
+pub fn ask<T: Asked>(book: &[Record], times: &[u32], prices: &[u32], stock: u32) -> T
+    ensures { result ≡ asking stock (asked T.own T.beside) T.beside (lent book.now times.now prices.now) }
 {
     let i = stock as usize;
-    let number = calls::call_number(book.len(), times.len(), prices.len(), i);
-    if number != DONE {
-        return stock::zero_notice(number);
+    match calls::call_refusal(book.len(), times.len(), prices.len(), i) {
+        Ok(()) => calls::ask_at(book[i], times, prices, stock),
+        Err(why) => T::beside(why as u32),
     }
-    let d = calls::settled_at(book[i], times, prices, stock, time);
-    let notice = d.notice;
-    if notice.answer.number != DONE {
-        return notice;
-    }
-    book[i] = d.next;
-    notice
-}
-
-// Reads a stock of the lent book, and changes nothing.
-pub fn read(book: &[Record], times: &[u32], prices: &[u32], stock: u32) -> Answer
-    ensures { result ≡ reading_in stock (lent book.now times.now prices.now) }
-{
-    let i = stock as usize;
-    let number = calls::call_number(book.len(), times.len(), prices.len(), i);
-    if number != DONE {
-        return stock::zeros(number);
-    }
-    calls::read_at(book[i], times, prices, stock)
-}
-
-// Gives the earliest moment still to come of a stock of the lent book, and changes nothing.
-pub fn next(book: &[Record], times: &[u32], prices: &[u32], stock: u32) -> Upcoming
-    ensures { result ≡ coming_in stock (lent book.now times.now prices.now) }
-{
-    let i = stock as usize;
-    let number = calls::call_number(book.len(), times.len(), prices.len(), i);
-    if number != DONE {
-        return stock::none_coming(number);
-    }
-    calls::next_at(book[i], times, prices, stock)
-}
-
-// Gives the day totals of a stock of the lent book, and changes nothing.
-pub fn totals(book: &[Record], times: &[u32], prices: &[u32], stock: u32) -> Summary
-    ensures { result ≡ totalling_in stock (lent book.now times.now prices.now) }
-{
-    let i = stock as usize;
-    let number = calls::call_number(book.len(), times.len(), prices.len(), i);
-    if number != DONE {
-        return stock::no_summary(number);
-    }
-    calls::totals_at(book[i], times, prices, stock)
 }

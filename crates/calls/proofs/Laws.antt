@@ -6,7 +6,8 @@ use Rattle.forms.specs.Checks.{first}
 use Rattle.forms.proofs.Promises.{agree}
 use Rattle.rules.specs.Book.{no_setup}
 use Rattle.rules.specs.Numbers.{call_checks, zeros}
-use Rattle.stock.specs.View.{bytes, reading, coming, totalling}
+use Rattle.rules.proofs.Refusals.{agree_by_number}
+use Rattle.stock.specs.View.{bytes, asked}
 use Rattle.calls.specs.Parts.{part}
 use Rattle.calls.specs.Setup.{setups_of, record_of, setup_number}
 use Rattle.calls.specs.Laws.{Laws}
@@ -23,12 +24,9 @@ laws = record {
   length_put = λ i new xs f. length_put i new xs f.places f.room;
   setups_are = setups_are;
   setup_number_is = setup_number_is;
-  call_number_determined = λ stocks times prices i. agree (first (call_checks stocks times prices i));
-  told_at_determined = λ i m r ts ps x y p q. rw (p.answer ∙ sym q.answer, p.next ∙ sym q.next, p.times ∙ sym q.times, p.prices ∙ sym q.prices);
-  settled_at_determined = λ i time r ts ps x y p q. rw (p.answer ∙ sym q.answer, p.next ∙ sym q.next, p.times ∙ sym q.times, p.prices ∙ sym q.prices);
-  read_at_determined = λ i r ts ps. agree (reading (bytes r (part i ts) (part i ps)));
-  next_at_determined = λ i r ts ps. agree (coming (bytes r (part i ts) (part i ps)));
-  totals_at_determined = λ i r ts ps. agree (totalling (bytes r (part i ts) (part i ps)));
+  call_refusal_determined = λ stocks times prices i. agree_by_number (first (call_checks stocks times prices i));
+  step_at_determined = λ i step r ts ps x y p q. rw (p.answer ∙ sym q.answer, p.next ∙ sym q.next, p.times ∙ sym q.times, p.prices ∙ sym q.prices);
+  ask_at_determined = λ i own beside r ts ps. agree (asked own beside (bytes r (part i ts) (part i ps)));
   setup_answer_determined = λ stocks times prices end list. agree (zeros (setup_number stocks times prices end list));
   started_at_determined = λ list end i. agree (record_of end (get_or (setups_of list) i no_setup));
 }

@@ -13,20 +13,12 @@ use lib.ListN.{length, take, drop, length-append, length-take, length-drop, take
 use lib.Seq.{length-take-le, get_or-take, get_or-drop, drop-drop, take_at, drop_at, take-append-le, drop-append-le}
 use Rattle.forms.specs.Choice.{any_of}
 use Rattle.forms.proofs.Bools.{or_any}
-use Rattle.forms.proofs.Choice.{if_false, any_head, any_tail}
-use Rattle.rules.specs.Numbers.{zeros, none_coming, no_notice}
-use Rattle.rules.specs.Counted.{no_summary}
-use Rattle.rules.specs.declared.Answer.{Answer}
-use Rattle.rules.specs.declared.Message.{Message}
-use Rattle.rules.specs.declared.Notice.{Notice}
-use Rattle.rules.specs.declared.Summary.{Summary}
-use Rattle.rules.specs.declared.Upcoming.{Upcoming}
-use Rattle.stock.specs.View.{Bytes, bytes, shaped, Outcome, telling, settling, reading, coming, totalling, Tells, Settles}
-use Rattle.stock.proofs.Laws as stock
+use Rattle.forms.proofs.Choice.{any_head, any_tail}
+use Rattle.rules.specs.Counted.{Counted}
+use Rattle.stock.specs.View.{Bytes, bytes, shaped, Outcome, Ruling, made, asked}
 use Rattle.stock.specs.declared.Record.{Record}
-use Rattle.stock.specs.declared.Told.{Told}
-use Rattle.stock.specs.declared.Settled.{Settled}
-use Rattle.calls.specs.Parts.{part, put, Placed, ToldAt, SettledAt}
+use Rattle.stock.proofs.Laws as stock
+use Rattle.calls.specs.Parts.{part, put, Placed}
 use Rattle.calls.specs.Laws.{PartIs}
 
 -- ------------------------------------------------------------------ the places of a part
@@ -93,41 +85,23 @@ module _ (i s : ℕ) (start : s ≡ 512 * i) where
   is_put : (xs new : List ℕ) → part_back s xs new ≡ put i new xs
   is_put xs new = rw (start, add-sub_cancel_left, drop-drop)
 
-  -- what was promised of the parts that were lent
-  of_part : {A : Type 0} (step : Bytes → A) (r : Record) (ts ps : List ℕ) (a : A)
-      → a ≡ step (bytes r (lent_part s ts) (lent_part s ps)) → a ≡ step (bytes r (part i ts) (part i ps))
-  of_part step r ts ps a e = rw (is_part ts, is_part ps) at e
+  -- what was promised of the parts that were lent, and of a copy of the record
+  pub of_part : {A : Type 0} (step : Bytes → A) (r own : Record) (ts ps : List ℕ) (a : A) → own ≡ r
+      → a ≡ step (bytes own (lent_part s ts) (lent_part s ps)) → a ≡ step (bytes r (part i ts) (part i ps))
+  of_part step r own ts ps a same e = rw (is_part ts, is_part ps, same) at e
 
   -- and of parts that came back changed
-  placed : {A : Type 0} (step : Bytes → Outcome A) (r : Record) (ts ps : List ℕ) (a : A) (next : Record) (us qs : List ℕ)
-      → ◌≡◌ {A = Outcome A} (record { answer = a; bytes = bytes next us qs }) (step (bytes r (lent_part s ts) (lent_part s ps)))
+  pub placed : {A : Type 0} (step : Bytes → Outcome A) (r own : Record) (ts ps : List ℕ) (a : A) (next : Record) (us qs : List ℕ) → own ≡ r
+      → ◌≡◌ {A = Outcome A} (record { answer = a; bytes = bytes next us qs }) (step (bytes own (lent_part s ts) (lent_part s ps)))
       → Placed i (step (bytes r (part i ts) (part i ps))) ts ps a next (part_back s ts us) (part_back s ps qs)
-  placed {A} step r ts ps a next us qs e =
-      let all = of_part step r ts ps _ e in
+  placed {A} step r own ts ps a next us qs same e =
+      let all = of_part step r own ts ps _ same e in
       record {
         answer = ap (λ (o : Outcome A). o.answer) all;
         next = ap (λ (o : Outcome A). o.bytes.kept) all;
         times = is_put ts us ∙ ap (λ (o : Outcome A). put i o.bytes.times ts) all;
         prices = is_put ps qs ∙ ap (λ (o : Outcome A). put i o.bytes.prices ps) all;
       }
-
-  pub read_of_part : (r : Record) (ts ps : List ℕ) (a : Answer) → a ≡ reading (bytes r (lent_part s ts) (lent_part s ps)) → a ≡ reading (bytes r (part i ts) (part i ps))
-  read_of_part = of_part reading
-
-  pub next_of_part : (r : Record) (ts ps : List ℕ) (u : Upcoming) → u ≡ coming (bytes r (lent_part s ts) (lent_part s ps)) → u ≡ coming (bytes r (part i ts) (part i ps))
-  next_of_part = of_part coming
-
-  pub totals_of_part : (r : Record) (ts ps : List ℕ) (x : Summary) → x ≡ totalling (bytes r (lent_part s ts) (lent_part s ps)) → x ≡ totalling (bytes r (part i ts) (part i ps))
-  totals_of_part = of_part totalling
-
-  module _ (r : Record) (ts ps us qs : List ℕ) where
-    pub told_placed : (m : Message) (x : Told) → Tells m (bytes r (lent_part s ts) (lent_part s ps)) x us qs
-        → ToldAt i m r ts ps x (part_back s ts us) (part_back s ps qs)
-    told_placed m x = placed (telling m) r ts ps x.answer x.next us qs
-
-    pub settled_placed : (time : ℕ) (x : Settled) → Settles time (bytes r (lent_part s ts) (lent_part s ps)) x us qs
-        → SettledAt i time r ts ps x (part_back s ts us) (part_back s ps qs)
-    settled_placed time x = placed (settling time) r ts ps x.notice x.next us qs
 
 -- ------------------------------------------------------------------ whether it is there
 
@@ -176,19 +150,8 @@ module _ (i : ℕ) (r : Record) (ts ps : List ℕ) (short : Bool) (of : Short i 
     prices = sym (ap (λ (o : Outcome A). put i o.bytes.prices ps) e ∙ put_part i ps);
   }
 
-  pub untold : (m : Message) (a : Answer) → a ≡ zeros 1 → ToldAt i m r ts ps (record { answer = a; next = r }) ts ps
-  unfolding telling
-  untold m a e = unplaced _ a (if_false _ _ _ unshaped ∙ rw e)
+  pub unstepped : {A : Type 0} (rule : Ruling A) (beside : ℕ → A) (a : A) → a ≡ beside 1 → Placed i (made rule beside own) ts ps a r ts ps
+  unstepped rule beside a e = unplaced _ a (stock.gets_one rule beside own _ refl unshaped ∙ rw e)
 
-  pub unsettled : (time : ℕ) (a : Notice) → a ≡ no_notice 1 → SettledAt i time r ts ps (record { notice = a; next = r }) ts ps
-  unfolding settling
-  unsettled time a e = unplaced _ a (if_false _ _ _ unshaped ∙ rw e)
-
-  pub unread : (a : Answer) → a ≡ zeros 1 → a ≡ reading own
-  unread a e = e ∙ sym (((stock.laws).read_by_the_rules own).1 unshaped)
-
-  pub none_next : (u : Upcoming) → u ≡ none_coming 1 → u ≡ coming own
-  none_next u e = e ∙ sym (((stock.laws).next_by_the_rules own).1 unshaped)
-
-  pub no_totals_lem : (x : Summary) → x ≡ no_summary 1 → x ≡ totalling own
-  no_totals_lem x e = e ∙ sym (((stock.laws).totals_by_the_rules own).1 unshaped)
+  pub unasked : {A : Type 0} (given : Counted → A) (beside : ℕ → A) (a : A) → a ≡ beside 1 → a ≡ asked given beside own
+  unasked given beside a e = e ∙ sym ((stock.given_by given beside own).1 unshaped)

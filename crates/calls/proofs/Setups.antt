@@ -1,19 +1,19 @@
 -- The list of setups by its places, and the loops that go over it.
 -- Assumes nothing.
-use Prim.Native.Nat.{ℕ, zero, suc, ◌+◌, ◌*◌, ◌/◌, ◌≤◌, ◌<◌}
+use Prim.Native.Nat.{ℕ, zero, suc, ◌+◌, ◌-◌, ◌*◌, ◌/◌, ◌≤◌, ◌<◌}
 use mathlib.Core.Bool.{Bool, true, false, ◌||◌}
-use mathlib.Core.List.{List, [], ◌∷◌, foldl}
+use mathlib.Core.List.{List, [], ◌∷◌, ◌++◌, foldl}
 use mathlib.Core.Path.{◌≡◌, refl, sym, ◌∙◌, ap}
 use native.Mathlib.Omega.{arith}
 use borrow.Author.Tests.{ltb-false}
-use lib.ListN.{length, get_or, drop}
+use lib.ListN.{length, get_or, take, drop, length-drop}
+use lib.Seq.{take_all, get_or-drop}
 use Rattle.forms.specs.Choice.{if◌then◌otherwise◌}
 use Rattle.forms.specs.Checks.{Check, first}
 use Rattle.forms.specs.Checks.Check.{◌when◌}
 use Rattle.forms.proofs.Bools.{either}
 use Rattle.forms.proofs.Checks.{hit, miss, passed}
 use Rattle.forms.proofs.Choice.{eq_not, ne_not, eq_of_not, any_here, any_there, any_not, any_empty, any_head, any_tail}
-use Rattle.forms.proofs.Loops.{fold_turn, fold_end}
 use Rattle.rules.specs.Book.{no_setup}
 use Rattle.rules.specs.Numbers.{bad_end, bad_setup, or_bad_setup, bad_shape, setup_checks}
 use Rattle.rules.specs.declared.Setup.{Setup}
@@ -71,6 +71,21 @@ no_setup_lem (suc i) (_ ∷ _ ∷ _ ∷ _ ∷ rest) h = no_setup_lem i rest (ome
 pub setup_here : (i : ℕ) (list : List ℕ) → i < length list / 4 → setup_in list i ≡ get_or (setups_of list) i no_setup
 setup_here i list h = setup_at i list (omega arith)
 
+-- of the first four
+pub setup_first : (list : List ℕ) → 4 ≤ length list → setup_in list 0 ≡ get_or (setups_of list) 0 no_setup
+setup_first list h = setup_at 0 list h
+
+-- and by the list from its first number on
+pub setup_from : (i : ℕ) (list : List ℕ) (u : Setup) → i < length list / 4 → u ≡ get_or (setups_of (take (length list - 4 * i) (drop (4 * i) list))) 0 no_setup
+    → u ≡ get_or (setups_of list) i no_setup
+setup_from i list u h e =
+    let whole = take_all (length list - 4 * i) (drop (4 * i) list) (simp length-drop (omega arith)) in
+    let reads = get_or-drop (4 * i) list in
+    let first : 4 * i + 0 ≡ 4 * i = omega arith in
+    let same : setup_in (drop (4 * i) list) 0 ≡ setup_in list i = rw (reads 0 0, reads 1 0, reads 2 0, reads 3 0, first) in
+    let there = setup_first (drop (4 * i) list) (simp length-drop (omega arith)) in
+    e ∙ ap (λ l. get_or (setups_of l) 0 no_setup) whole ∙ sym there ∙ same ∙ setup_here i list h
+
 pub setup_past : (i : ℕ) (list : List ℕ) → length list / 4 ≤ i → no_setup ≡ get_or (setups_of list) i no_setup
 setup_past i list h = sym (no_setup_lem i list (omega arith))
 
@@ -84,17 +99,33 @@ unfolding or_bad_setup if◌then◌otherwise◌
 or_bad true this u e = refl
 or_bad false this u e = e
 
--- one more setup is judged
-pub judge_more : (list : List ℕ) (stocks i : ℕ) (bad this w : Bool) (u : Setup) → length list ≡ 4 * stocks → i < stocks
-    → u ≡ get_or (setups_of list) i no_setup → this ≡ bad_setup u → foldl or_bad_setup bad (drop i (setups_of list)) ≡ w
-    → foldl or_bad_setup (bad || this) (drop (i + 1) (setups_of list)) ≡ w
-judge_more list stocks i bad this w u enough small at is q =
-    fold_turn or_bad_setup (setups_of list) no_setup bad (bad || this) w stocks i (setups_length stocks list enough) small
-    (or_bad bad this _ (rw (← at) is)) q
+-- a list that begins with four numbers has their setup first
+four_first : (x rest : List ℕ) → length x ≡ 4 → setups_of (x ++ rest) ≡ get_or (setups_of x) 0 no_setup ∷ setups_of rest
+unfolding setups_of
+four_first [] rest e = absurd (omega arith)
+four_first (_ ∷ []) rest e = absurd (omega arith)
+four_first (_ ∷ _ ∷ []) rest e = absurd (omega arith)
+four_first (_ ∷ _ ∷ _ ∷ []) rest e = absurd (omega arith)
+four_first (a ∷ b ∷ c ∷ d ∷ []) rest e = refl
+four_first (_ ∷ _ ∷ _ ∷ _ ∷ _ ∷ more) rest e = absurd (omega arith)
 
-pub judge_all : (list : List ℕ) (stocks i : ℕ) (bad w : Bool) → length list ≡ 4 * stocks → stocks ≤ i
-    → foldl or_bad_setup bad (drop i (setups_of list)) ≡ w → bad ≡ w
-judge_all list stocks i bad w enough end q = fold_end or_bad_setup (setups_of list) bad w stocks i (setups_length stocks list enough) end q
+-- one more setup is judged
+pub judge_more : (bad this w : Bool) (u : Setup) (list x rest : List ℕ) → list ≡ x ++ rest → length x ≡ 4 → u ≡ get_or (setups_of x) 0 no_setup → this ≡ bad_setup u
+    → foldl or_bad_setup bad (setups_of list) ≡ w → foldl or_bad_setup (bad || this) (setups_of rest) ≡ w
+judge_more bad this w u list x rest parts four of is q =
+    let first = get_or (setups_of x) 0 no_setup in
+    let all : setups_of list ≡ first ∷ setups_of rest = ap setups_of parts ∙ four_first x rest four in
+    let turn : (bad || this) ≡ or_bad_setup bad first = or_bad bad this first (is ∙ ap bad_setup of) in
+    ap (λ b. foldl or_bad_setup b (setups_of rest)) turn ∙ sym (ap (foldl or_bad_setup bad) all) ∙ q
+
+-- fewer than four numbers are no setup
+pub judge_all : (bad w : Bool) (rest : List ℕ) → length rest < 4 → foldl or_bad_setup bad (setups_of rest) ≡ w → bad ≡ w
+unfolding setups_of
+judge_all bad w [] h q = q
+judge_all bad w (_ ∷ []) h q = q
+judge_all bad w (_ ∷ _ ∷ []) h q = q
+judge_all bad w (_ ∷ _ ∷ _ ∷ []) h q = q
+judge_all bad w (_ ∷ _ ∷ _ ∷ _ ∷ rest) h q = absurd (omega arith)
 
 -- 1 by either of its checks
 one : (a b : Bool) (cs : List Check) → (a ≡ false → b ≡ true) → 1 ≡ first (1 when a ∷ 1 when b ∷ cs)

@@ -1,21 +1,20 @@
 -- What the parts of a call obey. Each field is a theorem: `laws` of proofs/Laws.antt proves the record.
 -- Assumes nothing.
-use Rattle.std.specs.Prelude.{ℕ, ◌+◌, ◌*◌, ◌≤◌, ◌<◌, List, ◌≡◌, length, get_or}
+use Rattle.std.specs.Prelude.{ℕ, Result, ⊤, ◌+◌, ◌*◌, ◌≤◌, ◌<◌, List, ◌≡◌, length, get_or}
 use Rattle.forms.specs.Checks.{first}
 use Rattle.forms.specs.Promises.{Determines}
 use Rattle.forms.specs.Words.{Gives}
 use Rattle.rules.specs.Book.{no_setup}
 use Rattle.rules.specs.Numbers.{call_checks, zeros}
+use Rattle.rules.specs.Refusals.{refused_by}
 use Rattle.rules.specs.declared.Answer.{Answer}
-use Rattle.rules.specs.declared.Message.{Message}
-use Rattle.rules.specs.declared.Summary.{Summary}
-use Rattle.rules.specs.declared.Upcoming.{Upcoming}
-use Rattle.stock.specs.View.{bytes, reading, coming, totalling}
+use Rattle.rules.specs.declared.Refusal.{Refusal}
+use Rattle.rules.specs.Counted.{Counted}
+use Rattle.stock.specs.View.{Bytes, bytes, Outcome, asked}
 use Rattle.stock.specs.Laws.{Left}
+use Rattle.stock.specs.declared.Handed.{Handed}
 use Rattle.stock.specs.declared.Record.{Record}
-use Rattle.stock.specs.declared.Told.{Told}
-use Rattle.stock.specs.declared.Settled.{Settled}
-use Rattle.calls.specs.Parts.{part, put, ToldAt, SettledAt}
+use Rattle.calls.specs.Parts.{part, put, StepsAt}
 use Rattle.calls.specs.Setup.{setups_of, record_of, setup_number}
 use Rattle.calls.specs.Words.{setup_in, setup_refusals}
 
@@ -50,7 +49,7 @@ SetupNumberIs = (stocks times prices end : ℕ) (list : List ℕ) → Gives (set
 
 -- ------------------------------------------------------------------ all of them
 
-pub record Laws : Type 0 where
+pub record Laws : Type 1 where
   pub part_is : PartIs
   pub part_put : PartPut
   pub part_put_other : PartPutOther
@@ -59,11 +58,8 @@ pub record Laws : Type 0 where
   pub setups_are : SetupsAre
   pub setup_number_is : SetupNumberIs
   -- two results that a promise of src/lib.rt allows agree
-  pub call_number_determined : (stocks times prices i : ℕ) → Determines (λ (n : ℕ). n ≡ first (call_checks stocks times prices i))
-  pub told_at_determined : (i : ℕ) (m : Message) (r : Record) (ts ps : List ℕ) → Determines (λ (x : Left Told). ToldAt i m r ts ps x.result x.times x.prices)
-  pub settled_at_determined : (i time : ℕ) (r : Record) (ts ps : List ℕ) → Determines (λ (x : Left Settled). SettledAt i time r ts ps x.result x.times x.prices)
-  pub read_at_determined : (i : ℕ) (r : Record) (ts ps : List ℕ) → Determines (λ (x : Answer). x ≡ reading (bytes r (part i ts) (part i ps)))
-  pub next_at_determined : (i : ℕ) (r : Record) (ts ps : List ℕ) → Determines (λ (x : Upcoming). x ≡ coming (bytes r (part i ts) (part i ps)))
-  pub totals_at_determined : (i : ℕ) (r : Record) (ts ps : List ℕ) → Determines (λ (x : Summary). x ≡ totalling (bytes r (part i ts) (part i ps)))
+  pub call_refusal_determined : (stocks times prices i : ℕ) → Determines (λ (r : Result ⊤ Refusal). refused_by r ≡ first (call_checks stocks times prices i))
+  pub step_at_determined : {A : Type 0} → (i : ℕ) (step : Bytes → Outcome A) (r : Record) (ts ps : List ℕ) → Determines (λ (x : Left (Handed A)). StepsAt i step r ts ps x.result x.times x.prices)
+  pub ask_at_determined : {A : Type 0} → (i : ℕ) (own : Counted → A) (beside : ℕ → A) (r : Record) (ts ps : List ℕ) → Determines (λ (x : A). x ≡ asked own beside (bytes r (part i ts) (part i ps)))
   pub setup_answer_determined : (stocks times prices end : ℕ) (list : List ℕ) → Determines (λ (r : Answer). r ≡ zeros (setup_number stocks times prices end list))
   pub started_at_determined : (list : List ℕ) (end i : ℕ) → Determines (λ (r : Record). r ≡ record_of end (get_or (setups_of list) i no_setup))

@@ -2,11 +2,9 @@
 -- "What the book holds", "Numbers given back").
 -- Assumes nothing.
 use Rattle.std.specs.Prelude.{ℕ, ◌+◌, ◌*◌, List, ◌++◌, ◌≡◌, take, drop}
-use Rattle.rules.specs.declared.Message.{Message}
-use Rattle.stock.specs.View.{bytes, Outcome, telling, settling}
+use Rattle.stock.specs.View.{Bytes, bytes, Outcome}
+use Rattle.stock.specs.declared.Handed.{Handed}
 use Rattle.stock.specs.declared.Record.{Record}
-use Rattle.stock.specs.declared.Told.{Told}
-use Rattle.stock.specs.declared.Settled.{Settled}
 
 -- ------------------------------------------------------------------ the part of a stock
 
@@ -27,10 +25,6 @@ pub record Placed {A : Type 0} (i : ℕ) (o : Outcome A) (ts ps : List ℕ) (a :
   pub times : ts' ≡ put i o.bytes.times ts
   pub prices : ps' ≡ put i o.bytes.prices ps
 
--- the promise of telling a record a message, where its places are the part of stock i
-abbrev pub ToldAt : ℕ → Message → Record → List ℕ → List ℕ → Told → List ℕ → List ℕ → Type 0
-ToldAt i m r ts ps x ts' ps' = Placed i (telling m (bytes r (part i ts) (part i ps))) ts ps x.answer x.next ts' ps'
-
--- the promise of settling a record to a time, where its places are the part of stock i
-abbrev pub SettledAt : ℕ → ℕ → Record → List ℕ → List ℕ → Settled → List ℕ → List ℕ → Type 0
-SettledAt i time r ts ps x ts' ps' = Placed i (settling time (bytes r (part i ts) (part i ps))) ts ps x.notice x.next ts' ps'
+-- the promise of a step of a record, where its places are the part of stock i
+abbrev pub StepsAt : {A : Type 0} → ℕ → (Bytes → Outcome A) → Record → List ℕ → List ℕ → Handed A → List ℕ → List ℕ → Type 0
+StepsAt i step r ts ps x ts' ps' = Placed i (step (bytes r (part i ts) (part i ps))) ts ps x.answer x.next ts' ps'

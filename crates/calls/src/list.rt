@@ -1,37 +1,35 @@
 // The list of setups: four numbers for each stock.
-ghost use Rattle.std.specs.Prelude.{◌≡◌, false, ◌*◌, ◌/◌, ◌<◌, length, get_or};
+ghost use Rattle.std.specs.Prelude.{◌≡◌, false, ◌≤◌, length, get_or};
 ghost use mathlib.Core.List.{foldl};
 ghost use Rattle.rules.specs.Book.{no_setup};
 ghost use Rattle.rules.specs.Numbers.{or_bad_setup};
+ghost use Rattle.rules.specs.Refusals.{refused_by};
 ghost use Rattle.calls.specs.Setup.{setups_of, record_of, setup_number};
 
 use crate::shape;
-use band::Mean;
-use rules::{
-    BAD_SETUP, Course, DONE, Quotes, RUBBISH, Reference, SETUP_NUMBERS, Setup, Stock, WAITING,
-};
+use rules::{Course, Refusal, SETUP_NUMBERS, Setup, Stock, WAITING};
 use stock::Record;
 
-// The setup of stock i, where the list has one.
-fn setup_of(list: &[u32], i: usize) -> Setup
-    requires { i < length list.now / 4 }
-    ensures { result ≡ get_or (setups_of list.now) i no_setup }
+// The setup that four numbers say.
+fn setup_of(numbers: &[u32]) -> Setup
+    requires { 4 ≤ length numbers.now }
+    ensures { result ≡ get_or (setups_of numbers.now) 0 no_setup }
 {
-    let at = SETUP_NUMBERS * i;
     Setup {
-        tier: list[at],
-        leverage: list[at + 1],
-        primary: list[at + 2],
-        close: list[at + 3],
+        tier: numbers[0],
+        leverage: numbers[1],
+        primary: numbers[2],
+        close: numbers[3],
     }
 }
 
-// The setup of any stock; where the list is too short, a placeholder that no call reads.
+// The setup of any stock; where the list is too short, a placeholder that no call reads. It is no Option, since
+// `calls::started_at`, which serves any list, promises a record by this placeholder (`rules.no_setup`).
 pub(crate) fn setup_at(list: &[u32], i: usize) -> Setup
     ensures { result ≡ get_or (setups_of list.now) i no_setup }
 {
     if i < list.len() / SETUP_NUMBERS {
-        return setup_of(list, i);
+        return setup_of(&list[SETUP_NUMBERS * i..]);
     }
     Setup {
         tier: 1,
@@ -42,36 +40,39 @@ pub(crate) fn setup_at(list: &[u32], i: usize) -> Setup
 }
 
 // Whether one of the setups is out of range.
-fn any_bad(list: &[u32], stocks: usize) -> bool
-    requires { length list.now ≡ 4 * stocks }
+fn any_bad(list: &[u32]) -> bool
     ensures { result ≡ foldl or_bad_setup false (setups_of list.now) }
 {
     let mut bad = false;
-    for i in 0..stocks {
-        let u = setup_of(list, i);
-        let this = judge::bad_setup(u);
-        bad = bad | this;
+    for numbers in list.chunks_exact(SETUP_NUMBERS) {
+        bad = bad | judge::bad_setup(setup_of(numbers));
     }
     bad
 }
 
-// The number that answers a setup.
-pub(crate) fn number_of(stocks: usize, times: usize, prices: usize, end: u32, list: &[u32]) -> u32
-    ensures { result ≡ setup_number stocks times prices end list.now }
+// Why a setup is refused.
+pub(crate) fn refusal(
+    stocks: usize,
+    times: usize,
+    prices: usize,
+    end: u32,
+    list: &[u32],
+) -> Result<(), Refusal>
+    ensures { refused_by result ≡ setup_number stocks times prices end list.now }
 {
     if shape::bad_shape(stocks, times, prices) {
-        return RUBBISH;
+        return Err(Refusal::Rubbish);
     }
     let n = list.len();
     if n != SETUP_NUMBERS * stocks {
-        return RUBBISH;
+        return Err(Refusal::Rubbish);
     }
     let end_is_bad = judge::bad_end(end);
-    let setup_is_bad = any_bad(list, stocks);
+    let setup_is_bad = any_bad(list);
     if end_is_bad | setup_is_bad {
-        return BAD_SETUP;
+        return Err(Refusal::BadSetup);
     }
-    DONE
+    Ok(())
 }
 
 // The record of a stock that is set up: it holds no trade, and every total is 0.
@@ -80,33 +81,17 @@ pub(crate) fn started(setup: Setup, end: u32) -> Record
 {
     let course = Course {
         state: WAITING,
-        clock: 0,
         early: 1,
-        entry: 0,
-        pause: 0,
-    };
-    let price = Mean { sum: 0, count: 0 };
-    let reference = Reference {
-        price,
-        start: 0,
-        hold: 0,
-    };
-    let quotes = Quotes {
-        bids: [0; 16],
-        offers: [0; 16],
+        ..Course::default()
     };
     let stock = Stock {
         setup,
         end,
         course,
-        reference,
-        quotes,
+        ..Stock::default()
     };
-    let none = stock::no_summary(DONE);
-    let totals = none.totals;
     Record {
         stock,
-        count: 0,
-        totals,
+        ..Record::default()
     }
 }

@@ -8,17 +8,11 @@ use rules::{MOST_STOCKS, PLACES};
 pub(crate) fn bad_shape(stocks: usize, times: usize, prices: usize) -> bool
     ensures { result ≡ bad_shape stocks times prices }
 {
-    if stocks == 0 {
-        return true;
-    }
-    if MOST_STOCKS < stocks {
+    if (stocks == 0) | (MOST_STOCKS < stocks) {
         return true;
     }
     let places = PLACES * stocks;
-    if times != places {
-        return true;
-    }
-    prices != places
+    (times != places) | (prices != places)
 }
 
 // The place at which the part of a stock begins.

@@ -8,30 +8,35 @@ use mathlib.Core.Path.{◌≡◌, refl, sym, ap, ◌∙◌}
 use native.Mathlib.Nat.{mod-eq_of_lt}
 use native.Mathlib.Decide.{dec_le}
 use native.Mathlib.Omega.{arith}
-use borrow.Author.Tests.{ltb-true, ltb-false, le-ltb, le-leb, ne_eqb}
+use borrow.Author.Tests.{ltb-true, ltb-false, le-leb, ne_eqb}
 use lib.Dec.{leb, ltb, eqb}
 use lib.ListN.{length, get_or, set, take, drop, length-append, length-set, length-drop, get_or-append}
-use lib.Seq.{sets, get_or-append_seam, take_at, length-take-le, get_or-take, get_or-drop, get_or-set_same, get_or-set_other}
+use lib.Seq.{sets, get_or-append_seam, take_at, length-take-le, get_or-take, get_or-drop}
+use Rattle.std.specs.Prelude.{Option, Some, None}
+use Rattle.std.specs.Option.{is_some}
+use Rattle.std.proofs.lemmas.Grind.{common_steps}
+use Rattle.std.proofs.lemmas.Option.{none-some}
 use Rattle.forms.specs.Choice.{if◌then◌otherwise◌, all_of}
 use Rattle.forms.specs.Words.{◌or◌, ◌and◌}
 use Rattle.forms.proofs.Choice.{if_true, if_false, all_yes, all_empty}
-use Rattle.forms.proofs.Decides.{Decides, words, exactly_where, reworded, never}
+use Rattle.forms.proofs.Decides.{Decides, words, exactly_where, reworded}
 use Rattle.rules.specs.Words.{IsEnd, IsSetup}
 use Rattle.rules.specs.Numbers.{bad_end, bad_setup}
 use Rattle.rules.specs.declared.Setup.{Setup}
 use Rattle.rules.proofs.Ranges.{end_is, in_end, setup_is, in_setup}
-use Rattle.tape.specs.Lines.{line_of, unread, Reads, to_feed}
+use Rattle.tape.specs.Lines.{line_of, Reads, to_feed}
 use Rattle.tape.specs.Lines.Reads.{a_line}
 use Rattle.tape.specs.Words.{IsFeed}
+use Rattle.tape.specs.declared.Line.{Line}
 use Rattle.tape.specs.Printing.{printed, printing}
 use Rattle.tape.proofs.Laws.{laws as of_tape}
 use Rattle.day.specs.Flow.{reach_of, between, Sees, lowered}
 use Rattle.day.specs.Spoken.{spoken_of}
-use Rattle.day.specs.Contents.{too_many, contents_of, is_setup, entered}
+use Rattle.day.specs.Contents.{contents_of, is_setup, entered}
 use Rattle.day.specs.Printed.{printed_of, place_of}
+use Rattle.day.specs.declared.Contents.{Contents}
 use Rattle.day.specs.declared.flow.Seen.{Seen}
-use Rattle.day.specs.Laws.{TextFound, NoneFound, LineFound, LineTaken, NoneTaken, Lowers, Messages, NoOther, AtMessage, SameMessage, Ended, QuoteHeard, GoodContents, SaysContents, WhichSetup, Enters, NineNumbers, LineIsPut, Laws}
-use Rattle.day.proofs.Lowered.{lowered_length, moved, stays}
+use Rattle.day.specs.Laws.{TextFound, NoneFound, LineFound, LineTaken, NoneTaken, Flushes, Lowers, Messages, NoOther, AtMessage, SameMessage, Ended, QuoteHeard, GoodContents, SaysContents, WhichSetup, Enters, NineNumbers, LineIsPut, Laws}
 
 -- ------------------------------------------------------------------ the lines of the input's block
 
@@ -69,10 +74,10 @@ through [] rest (suc n) l = (n, refl)
 through (c ∷ text) rest (suc n) l = let t = through text rest n (omega arith) in (t.0, ap (λ xs. c ∷ xs) t.1)
 
 -- a text that ends at its line feed, whatever follows, is found
-found_there : (bytes text rest : List ℕ) (from to : ℕ) (r : Seen) → length text ≤ 56 → ((more : List ℕ) → to_feed (text ++ 10 ∷ more) ≡ length text)
+found_there : (bytes text rest : List ℕ) (from to : ℕ) (r : Option Seen) → length text ≤ 56 → ((more : List ℕ) → to_feed (text ++ 10 ∷ more) ≡ length text)
     → drop from bytes ≡ text ++ 10 ∷ rest → from + length text < to → Sees bytes from to r
-    → r.found ≡ true and Reads text r.line and r.next ≡ from + length text + 1
-found_there bytes text rest from to r n there d l sees = go r.found refl
+    → (s : Seen) × (r ≡ Some s and Reads text s.line and s.next ≡ from + length text + 1)
+found_there bytes text rest from to r n there d l = go r
   where
     reached : from + length text < reach_of from to
     reached = omega arith
@@ -85,43 +90,49 @@ found_there bytes text rest from to r n there d l sees = go r.found refl
     before : between bytes from (from + length text) ≡ text
     before = ap (take (from + length text - from)) d ∙ take_at text (10 ∷ rest) (from + length text - from) (omega arith)
 
-    go : (found : Bool) → r.found ≡ found → r.found ≡ true and Reads text r.line and r.next ≡ from + length text + 1
-    go true e =
-        let s = sees.0 e in
-        (e, ((rw (ends, before) at s).1, (rw ends at s).2))
-    go false e = absurd (let s = (sees.1 e).0 in omega (arith, reached, ends))
+    go : (r : Option Seen) → Sees bytes from to r → (s : Seen) × (r ≡ Some s and Reads text s.line and s.next ≡ from + length text + 1)
+    go (Some s) e = (s, (refl, ((rw (ends, before) at e).1, (rw ends at e).2)))
+    go None e = absurd (omega (arith, reached, ends))
 
 text_found : TextFound
 text_found bytes text rest from to r n others = found_there bytes text rest from to r n (λ more. feed_behind text more others)
 
 none_found : NoneFound
-none_found bytes from to r n others sees = go r.found refl
+none_found bytes from to r n others = go r
   where
     part : List ℕ
     part = between bytes from (reach_of from to)
 
-    go : (found : Bool) → r.found ≡ found → r.found ≡ false and r.line ≡ unread and r.next ≡ from
-    go true e =
-        let s : from + to_feed part < reach_of from to = (sees.0 e).0 in
+    go : (r : Option Seen) → Sees bytes from to r → r ≡ None
+    go (Some s) e =
+        let s : from + to_feed part < reach_of from to = e.0 in
         let long : length part ≡ reach_of from to - from = length-take-le (reach_of from to - from) (drop from bytes) (rw (length-drop from bytes) (omega arith)) in
         let ten : get_or part (to_feed part) 0 ≡ 10 = feed_at part (omega (arith, s, long)) in
         let there = get_or-take (reach_of from to - from) (drop from bytes) (to_feed part) 0 (omega (arith, s)) ∙ get_or-drop from bytes (to_feed part) 0 in
         absurd (others (to_feed part) (omega (arith, s)) (omega (arith, s)) (sym there ∙ ten))
-    go false e = let s = sees.1 e in (e, (s.1, s.2))
+    go None e = refl
+
+same_seen : (s : Seen) (line : Option Line) (next : ℕ) → s.line ≡ line → s.next ≡ next → s ≡ record { line = line; next = next }
+same_seen s line next e n = rw (← e, ← n) refl
 
 line_found : LineFound
 line_found bytes text rest from to letter words r p d l sees =
     let f = found_there bytes text rest from to r (of_tape.no_longer text letter words p) (λ more. of_tape.ends_there text more letter words p) d l sees in
-    (f.0, (of_tape.read_determined text r.line (line_of letter words) f.1.0 (a_line letter words p refl), f.1.1))
+    let e : f.0.line ≡ Some (line_of letter words) = of_tape.read_determined text f.0.line (Some (line_of letter words)) f.1.1.0 (a_line letter words p refl) in
+    let n : f.0.next ≡ from + length text + 1 = f.1.1.1 in
+    f.1.0 ∙ ap (λ (s : Seen). Some s) (same_seen f.0 _ _ e n)
 
 line_taken : LineTaken
-line_taken line next f = (refl, (refl, (refl, (refl, refl))))
+line_taken line next f = (refl, (refl, (refl, (refl, (refl, refl)))))
 
 none_taken : NoneTaken
-none_taken f = ((of_tape.read_as 0 []).1.1, refl)
+none_taken f = (refl, refl)
+
+flushes : Flushes
+flushes f = (refl, (refl, (refl, (refl, refl))))
 
 lowers : (bytes : List ℕ) (gone keep : ℕ) → gone + keep ≤ length bytes → Lowers bytes (lowered bytes gone keep) gone keep
-lowers bytes gone keep h = record { kept_first = moved bytes gone keep h; others_stay = stays bytes gone keep h; as_long = lowered_length bytes gone keep h }
+lowers bytes gone keep h = record { kept_first = λ j l. grind (arith, common_steps); others_stay = λ j l. grind (arith, common_steps); as_long = grind (arith, common_steps) }
 
 -- ------------------------------------------------------------------ the message of a line
 
@@ -149,36 +160,49 @@ no_other numbers letter n = simp (
 )
 
 at_message_lem : AtMessage
-at_message_lem letter stock time last left rest m f = (refl, (refl, (refl, (refl, (refl, (refl, (refl, refl)))))))
+at_message_lem letter stock time last left rest m f = (refl, (refl, (refl, refl)))
 
 same_message : SameMessage
-same_message d f = (refl, (refl, (refl, (refl, (refl, (refl, (refl, refl)))))))
+same_message d f = (refl, (refl, (refl, refl)))
 
 ended : Ended
 ended last f = (refl, (refl, (refl, refl)))
 
 quote_heard : QuoteHeard
 unfolding spoken_of if◌then◌otherwise◌
-quote_heard r p = rw (of_tape.read_determined _ r _ p of_tape.lines_are_read.1.1.1.0) refl
+quote_heard r p = (_, (of_tape.read_determined _ r _ p of_tape.lines_are_read.1.1.1.0, refl))
 
 -- ------------------------------------------------------------------ the lines ahead of the messages
 
-good_contents : GoodContents
-unfolding contents_of if◌then◌otherwise◌
-good_contents letter stocks messages end rest = exactly_where (go (ltb 8 stocks) (ltb-true 8 stocks) (ltb-false 8 stocks))
-  where
-    few : Decides (all_of (eqb letter 67 ∷ ltb 0 stocks ∷ not (bad_end end) ∷ [])) (letter ≡ 67 and 0 < stocks and ¬ ¬ IsEnd end)
-    few = search (words, end_is) depth 20
+-- a choice is there where its test holds, and is what it says
+picked : (b : Bool) (c : Contents) → is_some (if b then Some c otherwise None) ≡ b
+unfolding if◌then◌otherwise◌
+picked true c = refl
+picked false c = refl
 
-    go : (many : Bool) → (many ≡ true → 8 < stocks) → (many ≡ false → stocks ≤ 8)
-        → Decides (if many then too_many otherwise record { good = all_of (eqb letter 67 ∷ ltb 0 stocks ∷ not (bad_end end) ∷ []); stocks = stocks; messages = messages; end = end }).good
-        (letter ≡ 67 and 1 ≤ stocks and stocks ≤ 8 and IsEnd end)
-    go true h k = never _ (λ w. let q = h refl in let l = w.1.1.0 in omega arith)
-    go false h k = reworded ((λ w. (w.0, (w.1.0, (k refl, in_end end w.1.1)))), (λ w. (w.0, (w.1.0, (λ n. n w.1.1.1))))) few
+picked_is : (b : Bool) (c d : Contents) → (if b then Some c otherwise None) ≡ Some d → c ≡ d
+unfolding if◌then◌otherwise◌
+picked_is true c d e = cc
+picked_is false c d e = absurd (none-some d e)
+
+good_contents : GoodContents
+unfolding contents_of
+good_contents letter stocks messages end rest =
+    exactly_where
+    (rw (picked (all_of tests_of) (record { stocks = stocks; messages = messages; end = end }))
+    (reworded ((λ w. (w.0, (w.1.0, (w.1.1.0, in_end end w.1.1.1)))), (λ w. (w.0, (w.1.0, (w.1.1.0, (λ n. n w.1.1.1)))))) decided))
+  where
+    tests_of : List Bool
+    tests_of = eqb letter 67 ∷ ltb 0 stocks ∷ leb stocks 8 ∷ not (bad_end end) ∷ []
+
+    decided : Decides (all_of tests_of) (letter ≡ 67 and 0 < stocks and stocks ≤ 8 and ¬ ¬ IsEnd end)
+    decided = search (words, end_is) depth 20
 
 says_contents : SaysContents
-unfolding contents_of if◌then◌otherwise◌
-says_contents letter stocks messages end rest h = rw (le-ltb 8 stocks h) (refl, (refl, refl))
+unfolding contents_of
+says_contents letter stocks messages end rest c e =
+    let s = picked_is _ (record { stocks = stocks; messages = messages; end = end }) c e in
+    (sym (ap (λ x. x.stocks) s), (sym (ap (λ x. x.messages) s), sym (ap (λ x. x.end) s)))
 
 which_setup : WhichSetup
 unfolding is_setup
@@ -190,57 +214,21 @@ which_setup letter tier leverage primary close rest = exactly_where (reworded ((
     decided : Decides (all_of (eqb letter 83 ∷ not (bad_setup u) ∷ [])) (letter ≡ 83 and ¬ ¬ IsSetup u)
     decided = search (words, setup_is) depth 20
 
--- four entries from a place on
-module _ (list : List ℕ) (a tier leverage primary close : ℕ) (h : a + 4 ≤ length list) where
-  abbrev one : List ℕ
-  one = set list a tier
-
-  abbrev two : List ℕ
-  two = set one (a + 1) leverage
-
-  abbrev three : List ℕ
-  three = set two (a + 2) primary
-
-  abbrev four : List ℕ
-  four = set three (a + 3) close
-
-  at_0 : get_or four a 0 ≡ tier
-  at_0 =
-      get_or-set_other three (a + 3) a close 0 (λ e. absurd (omega arith)) ∙ get_or-set_other two (a + 2) a primary 0 (λ e. absurd (omega arith))
-      ∙ get_or-set_other one (a + 1) a leverage 0 (λ e. absurd (omega arith)) ∙ get_or-set_same list a tier 0 (omega arith)
-
-  at_1 : get_or four (a + 1) 0 ≡ leverage
-  at_1 =
-      get_or-set_other three (a + 3) (a + 1) close 0 (λ e. absurd (omega arith)) ∙ get_or-set_other two (a + 2) (a + 1) primary 0 (λ e. absurd (omega arith))
-      ∙ get_or-set_same one (a + 1) leverage 0 (simp length-set (omega arith))
-
-  at_2 : get_or four (a + 2) 0 ≡ primary
-  at_2 = get_or-set_other three (a + 3) (a + 2) close 0 (λ e. absurd (omega arith)) ∙ get_or-set_same two (a + 2) primary 0 (simp length-set (omega arith))
-
-  at_3 : get_or four (a + 3) 0 ≡ close
-  at_3 = get_or-set_same three (a + 3) close 0 (simp length-set (omega arith))
-
-  -- a place that is none of the four
-  elsewhere : (j : ℕ) → ¬ (j ≡ a) → ¬ (j ≡ a + 1) → ¬ (j ≡ a + 2) → ¬ (j ≡ a + 3) → get_or four j 0 ≡ get_or list j 0
-  elsewhere j k l m n =
-      get_or-set_other three (a + 3) j close 0 n ∙ get_or-set_other two (a + 2) j primary 0 m
-      ∙ get_or-set_other one (a + 1) j leverage 0 l ∙ get_or-set_other list a j tier 0 k
-
-  others : (j : ℕ) → j < a or a + 4 ≤ j → get_or four j 0 ≡ get_or list j 0
-  others j (inl l) = elsewhere j (λ e. absurd (omega arith)) (λ e. absurd (omega arith)) (λ e. absurd (omega arith)) (λ e. absurd (omega arith))
-  others j (inr l) = elsewhere j (λ e. absurd (omega arith)) (λ e. absurd (omega arith)) (λ e. absurd (omega arith)) (λ e. absurd (omega arith))
-
 enters : (list : List ℕ) (i tier leverage primary close : ℕ) → 4 * i + 4 ≤ length list
     → Enters list (entered list i (record { tier = tier; leverage = leverage; primary = primary; close = close })) i tier leverage primary close
 unfolding entered
 enters list i tier leverage primary close h = record {
-  tier_first = at_0 list (4 * i) tier leverage primary close h;
-  then_leverage = at_1 list (4 * i) tier leverage primary close h;
-  then_primary = at_2 list (4 * i) tier leverage primary close h;
-  then_close = at_3 list (4 * i) tier leverage primary close h;
-  others_stay = others list (4 * i) tier leverage primary close h;
+  tier_first = grind (arith, common_steps);
+  then_leverage = grind (arith, common_steps);
+  then_primary = grind (arith, common_steps);
+  then_close = grind (arith, common_steps);
+  others_stay = λ j o. stays j o;
   as_long = simp length-set;
 }
+  where
+    stays : (j : ℕ) → j < 4 * i or 4 * i + 4 ≤ j → get_or (set (set (set (set list (4 * i) tier) (4 * i + 1) leverage) (4 * i + 2) primary) (4 * i + 3) close) j 0 ≡ get_or list j 0
+    stays j (inl l) = grind (arith, common_steps)
+    stays j (inr l) = grind (arith, common_steps)
 
 -- ------------------------------------------------------------------ what is printed
 
@@ -271,6 +259,7 @@ laws = record {
   line_found = line_found;
   line_taken = line_taken;
   none_taken = none_taken;
+  flushes = flushes;
   lowers = lowers;
   messages = messages;
   no_other = no_other;

@@ -1,23 +1,19 @@
 -- What the lines ahead of the messages say (document 01, "The day program").
 -- Assumes nothing.
-use Rattle.std.specs.Prelude.{ℕ, ◌+◌, ◌*◌, Bool, false, not, List, [], ◌∷◌, ltb, eqb, get_or, set}
+use Rattle.std.specs.Prelude.{ℕ, ◌+◌, ◌*◌, Bool, not, List, [], ◌∷◌, leb, ltb, eqb, get_or, set, Option, Some, None}
 use Rattle.forms.specs.Choice.{if◌then◌otherwise◌, all_of}
 use Rattle.rules.specs.Numbers.{bad_end, bad_setup}
 use Rattle.rules.specs.declared.Setup.{Setup}
 use Rattle.tape.specs.declared.Line.{Line}
 use Rattle.day.specs.declared.Contents.{Contents}
 
--- the result for more than 8 stocks
-abbrev pub too_many : Contents
-too_many = record { good = false; stocks = 0; messages = 0; end = 0 }
-
 -- the line "`C stocks messages E`", with 1 to 8 stocks and an E that setup accepts; 67 is the code of C
-unfoldable pub contents_of : Line → Contents
+unfoldable pub contents_of : Line → Option Contents
 contents_of line =
     let stocks = get_or line.numbers 0 0 in
     let end = get_or line.numbers 2 0 in
-    if ltb 8 stocks then too_many otherwise
-    record { good = all_of (eqb line.letter 67 ∷ ltb 0 stocks ∷ not (bad_end end) ∷ []); stocks = stocks; messages = get_or line.numbers 1 0; end = end }
+    if all_of (eqb line.letter 67 ∷ ltb 0 stocks ∷ leb stocks 8 ∷ not (bad_end end) ∷ []) then Some (record { stocks = stocks; messages = get_or line.numbers 1 0; end = end })
+    otherwise None
 
 -- the setup that "`S tier leverage primary close`" says
 abbrev pub setup_of : List ℕ → Setup

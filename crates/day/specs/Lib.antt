@@ -1,3 +1,5 @@
+pub mod Blocks
+pub mod Progress
 pub mod Flow
 pub mod Spoken
 pub mod Contents

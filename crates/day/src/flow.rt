@@ -1,41 +1,52 @@
 // Buffered input and output, each through one large block. Output is flushed before more input is read, so that a
 // reader who waits for an answer gets it.
-ghost use Rattle.std.specs.Prelude.{◌+◌, ◌≤◌, ◌≡◌, length};
-ghost use Rattle.day.specs.Flow.{Within, Same, reach_of, Sees, lowered, found_of, missing_of};
+ghost use Rattle.std.specs.Prelude.{◌≡◌, ◌+◌, ◌-◌, ◌<◌, ◌≤◌, true, length, IfSome, IfOk, OnOk, OnErr};
+ghost use Rattle.day.specs.Flow.{reach_of, Sees, lowered_flow, taken_of, flushed, with_at};
 ghost use Rattle.day.specs.Printed.{printed_of, place_of, put_of};
 
 use rules::Answer;
-use std::io::{Read, Write};
+use std::io::{self, Read, Write};
+use std::marker::Model;
 use tape::Line;
+
+// The bytes of each block.
+const BLOCK: usize = 32_768;
 
 // A line of the input has at most this many bytes, with its line feed.
 const LONGEST: usize = tape::LONGEST_LINE + 1;
 
-// The positions in both blocks.
-#[derive(Clone, Copy)]
-pub struct Flow {
+// A reader and a writer. Their blocks are arrays, since std's BufReader and BufWriter keep theirs on the heap.
+#[derive(Drop)]
+pub struct Flow<R, W> {
+    reader: R,
+    writer: W,
     // the unread bytes of the input's block: `from` up to `to`
-    pub from: usize,
-    pub to: usize,
+    input: [u8; BLOCK],
+    from: usize,
+    to: usize,
     // how many bytes of the output's block are still to be written
-    pub at: usize,
-    // false once the output has refused a write
-    pub live: bool,
+    output: [u8; BLOCK],
+    at: usize,
 }
 
-// The next line if one was found, and where the line after it begins.
+// Clauses see both blocks and the positions in them, which are within the blocks.
+impl<R, W> Model for Flow<R, W> {
+    ghost use Rattle.std.specs.Prelude.{◌≤◌};
+    ghost use Rattle.day.specs.Blocks.{Blocks};
+    ghost use Rattle.day.specs.declared.flow.TheConstants.{BLOCK};
+
+    ghost Value = { Blocks };
+
+    ghost view = { λ f. record { input = f.input; from = f.from; to = f.to; output = f.output; at = f.at } };
+
+    ghost invariant = { λ f. (f.from ≤ f.to) × (f.to ≤ BLOCK) × (f.at ≤ BLOCK) };
+}
+
+// A line that was found, if it can be read, and where the line after it begins.
 #[derive(Clone, Copy)]
 pub struct Seen {
-    pub found: bool,
-    pub line: Line,
+    pub line: Option<Line>,
     pub next: usize,
-}
-
-// A line, and the positions after it.
-#[derive(Clone, Copy)]
-pub struct Taken {
-    pub line: Line,
-    pub flow: Flow,
 }
 
 // How far to look for the line feed of a line that begins at `from`.
@@ -44,199 +55,147 @@ fn reach(from: usize, to: usize) -> usize
     ensures lower_bound { (from ≤ result) × (result ≤ to) }
     ensures value { result ≡ reach_of from to }
 {
-    if LONGEST < to - from {
-        return from + LONGEST;
-    }
-    to
-}
-
-// Looks for a whole line among the bytes that are there.
-fn look(input: &[u8], from: usize, to: usize) -> Seen
-    requires { (from ≤ to) × (to ≤ length input.now) }
-    ensures from_le_next { (from ≤ result.next) × (result.next ≤ to) }
-    ensures sees { Sees input.now from to result }
-{
-    let most = reach(from, to);
-    let end = from + tape::to_feed(&input[from..most]);
-    if end < most {
-        let line = tape::read(&input[from..end]);
-        return Seen {
-            found: true,
-            line,
-            next: end + 1,
-        };
-    }
-    let line = tape::unread();
-    Seen {
-        found: false,
-        line,
-        next: from,
-    }
-}
-
-// Moves `keep` bytes down by `gone`.
-fn lower(bytes: &mut [u8], gone: usize, keep: usize)
-    requires { gone + keep ≤ length bytes.old }
-    ensures { bytes.new ≡ lowered bytes.old gone keep }
-{
-    for i in 0..keep {
-        bytes[i] = bytes[gone + i];
-    }
-}
-
-// Writes the pending output.
-pub(crate) fn flush<W: Write>(writer: &mut W, output: &[u8], f: Flow) -> Flow
-    requires { f.at ≤ length output.now }
-    ensures { (result.at ≡ 0) × (result.from ≡ f.from) × (result.to ≡ f.to) }
-{
-    let at = f.at;
-    let all = writer.write_all(&output[..at]).is_ok();
-    Flow {
-        from: f.from,
-        to: f.to,
-        at: 0,
-        live: f.live & all,
-    }
-}
-
-// Moves the unread bytes to the front of the block, and reads once into the room after them.
-fn refill<R: Read>(reader: &mut R, input: &mut [u8], f: Flow) -> Flow
-    requires { (f.from ≤ f.to) × (f.to ≤ length input.old) }
-    ensures { (result.at ≡ f.at) × (result.from ≡ 0) × (result.to ≤ length input.old) }
-{
-    let n = f.to - f.from;
-    lower(input, f.from, n);
-    let more = reader.read(&mut input[n..]).unwrap_or(0);
-    Flow {
-        from: 0,
-        to: n + more,
-        at: f.at,
-        live: f.live,
-    }
-}
-
-// Flushes the output and reads more input, unless the unread bytes are already too long for a line.
-fn more<R: Read, W: Write>(
-    reader: &mut R,
-    writer: &mut W,
-    input: &mut [u8],
-    output: &[u8],
-    f: Flow,
-) -> Flow
-    requires { Within f (length input.old) (length output.now) }
-    ensures { Within result (length input.old) (length output.now) }
-{
-    if LONGEST <= f.to - f.from {
-        return f;
-    }
-    let written = flush(writer, output, f);
-    if !written.live {
-        return written;
-    }
-    refill(reader, input, written)
-}
-
-// The result where no line can be read.
-fn missing(f: Flow) -> Taken
-    ensures same { Same result.flow f }
-    ensures value { result ≡ missing_of f }
-{
-    let line = tape::unread();
-    Taken { line, flow: f }
-}
-
-// The result for a line that was found; the one after it begins at `next`.
-fn found(line: Line, next: usize, f: Flow) -> Taken
-    ensures from_value { (result.flow.from ≡ next) × (result.flow.to ≡ f.to) × (result.flow.at ≡ f.at) }
-    ensures value { result ≡ found_of line next f }
-{
-    let flow = Flow {
-        from: next,
-        to: f.to,
-        at: f.at,
-        live: f.live,
-    };
-    Taken { line, flow }
-}
-
-// The next line; an unreadable one where there is none or it is too long.
-pub(crate) fn next_line<R: Read, W: Write>(
-    reader: &mut R,
-    writer: &mut W,
-    input: &mut [u8],
-    output: &[u8],
-    flow: Flow,
-) -> Taken
-    requires { Within flow (length input.old) (length output.now) }
-    ensures { Within result.flow (length input.old) (length output.now) }
-{
-    let mut f = flow;
-    for turn in 0..LONGEST + 1 {
-        let seen = look(input, f.from, f.to);
-        if seen.found {
-            return found(seen.line, seen.next, f);
-        }
-        let had = f.to - f.from;
-        f = more(reader, writer, input, output, f);
-        if f.to - f.from <= had {
-            return missing(f);
-        }
-    }
-    missing(f)
-}
-
-// Makes room for a line: flushes the output's block where a line might not fit.
-fn with_room<W: Write>(writer: &mut W, output: &[u8], f: Flow) -> Flow
-    requires { f.at ≤ length output.now }
-    ensures at_in_bounds { (result.at ≤ length output.now) × (result.from ≡ f.from) × (result.to ≡ f.to) }
-    ensures at_value { result.at ≡ place_of (length output.now) f.at }
-{
-    if output.len() - f.at < tape::LONGEST_PRINTED {
-        return flush(writer, output, f);
-    }
-    f
+    from + LONGEST.min(to - from)
 }
 
 // The numbers of an answer, in the order in which they are printed.
 fn numbers_of(a: Answer) -> [u64; 9]
     ensures { result ≡ printed_of a }
 {
-    let bid = a.best.bid;
-    let offer = a.best.offer;
+    let best = a.best;
     [
-        a.number as u64,
-        a.state as u64,
-        a.reference as u64,
-        a.lower as u64,
-        a.upper as u64,
-        bid.price as u64,
-        bid.flag as u64,
-        offer.price as u64,
-        offer.flag as u64,
+        a.number,
+        a.state,
+        a.reference,
+        a.lower,
+        a.upper,
+        best.bid.price,
+        best.bid.flag,
+        best.offer.price,
+        best.offer.flag,
     ]
+    .map(u64::from)
 }
 
-// Puts a line into the output's block.
-pub(crate) fn put<W: Write>(
-    writer: &mut W,
-    output: &mut [u8],
-    flow: Flow,
-    stock: u32,
-    time: u32,
-    letter: u8,
-    a: Answer,
-) -> Flow
-    requires { flow.at ≤ length output.old }
-    ensures at_in_bounds { (result.at ≤ length output.old) × (result.from ≡ flow.from) × (result.to ≡ flow.to) }
-    ensures output_after { record { to = result.at; bytes = output.new } ≡ put_of output.old flow.at stock time letter a }
-{
-    let numbers = numbers_of(a);
-    let f = with_room(writer, output, flow);
-    let at = tape::print(output, f.at, stock as u64, time as u64, letter, &numbers);
-    Flow {
-        from: f.from,
-        to: f.to,
-        at,
-        live: f.live,
+impl<R: Read, W: Write> Flow<R, W> {
+    pub(crate) fn new(reader: R, writer: W) -> Self {
+        Flow {
+            reader,
+            writer,
+            input: [0; BLOCK],
+            from: 0,
+            to: 0,
+            output: [0; BLOCK],
+            at: 0,
+        }
+    }
+
+    // Looks for a whole line among the unread bytes.
+    fn look(&self) -> Option<Seen>
+        ensures within { IfSome result (λ s. (self.now.from ≤ s.next) × (s.next ≤ self.now.to)) }
+        ensures sees { Sees self.now.input self.now.from self.now.to result }
+    {
+        let most = reach(self.from, self.to);
+        let end = self.from + tape::to_feed(&self.input[self.from..most]);
+        if most <= end {
+            return None;
+        }
+        Some(Seen {
+            line: tape::read(&self.input[self.from..end]),
+            next: end + 1,
+        })
+    }
+
+    // Takes the line that was seen, if one was and it can be read.
+    fn take(&mut self, seen: Option<Seen>) -> Option<Line>
+        requires { IfSome seen (λ s. (self.old.from ≤ s.next) × (s.next ≤ self.old.to)) }
+        ensures { record { line = result; flow = self.new } ≡ taken_of seen self.old }
+    {
+        let seen = seen?;
+        self.from = seen.next;
+        seen.line
+    }
+
+    // Moves the unread bytes to the front of their block.
+    fn lower(&mut self)
+        ensures { self.new ≡ lowered_flow self.old }
+    {
+        self.input.copy_within(self.from..self.to, 0);
+        self.to -= self.from;
+        self.from = 0;
+    }
+
+    // Writes the pending output.
+    pub(crate) fn flush(&mut self) -> io::Result<()>
+        ensures ok { OnOk result (self.new ≡ flushed self.old) }
+        ensures err { OnErr result (self.new ≡ self.old) }
+    {
+        self.writer.write_all(&self.output[..self.at])?;
+        self.at = 0;
+        Ok(())
+    }
+
+    // Flushes the output and reads once; says whether that gave more bytes. It reads nothing where the unread bytes are
+    // already too long for a line.
+    fn more(&mut self) -> io::Result<bool>
+        ensures ok { IfOk result (λ more. more ≡ true → (self.old.to - self.old.from < 57) × (self.old.to - self.old.from < self.new.to - self.new.from)) }
+        ensures err { OnErr result (self.new ≡ self.old) }
+        ensures output_stays { self.new.output ≡ self.old.output }
+    {
+        if LONGEST <= self.to - self.from {
+            return Ok(false);
+        }
+        self.flush()?;
+        self.lower();
+        let n = self.reader.read(&mut self.input[self.to..]).unwrap_or(0);
+        self.to += n;
+        Ok(0 < n)
+    }
+
+    // The next line; none where there is none, where it is too long or where it cannot be read.
+    pub(crate) fn next_line(&mut self) -> io::Result<Option<Line>>
+        ensures { self.new.output ≡ self.old.output }
+    {
+        let mut seen = self.look();
+        while seen.is_none() && self.more()? {
+            seen = self.look();
+        }
+        Ok(self.take(seen))
+    }
+
+    // Makes room for a line: flushes the output's block where a line might not fit.
+    fn make_room(&mut self) -> io::Result<()>
+        ensures ok { OnOk result (self.new ≡ with_at (place_of (length self.old.output) self.old.at) self.old) }
+        ensures err { OnErr result (self.new ≡ self.old) }
+    {
+        if self.output.len() - self.at < tape::LONGEST_PRINTED {
+            self.flush()?;
+        }
+        Ok(())
+    }
+
+    // Puts a line into the output's block.
+    pub(crate) fn put(&mut self, stock: u32, time: u32, letter: u8, a: Answer) -> io::Result<()>
+        ensures output_after { OnOk result (record { to = self.new.at; bytes = self.new.output } ≡ put_of self.old.output self.old.at stock time letter a) }
+        ensures input_stays { OnOk result ((self.new.input ≡ self.old.input) × (self.new.from ≡ self.old.from) × (self.new.to ≡ self.old.to)) }
+        ensures err { OnErr result (self.new ≡ self.old) }
+    {
+        self.make_room()?;
+        let numbers = numbers_of(a);
+        self.at = tape::print(
+            &mut self.output,
+            self.at,
+            u64::from(stock),
+            u64::from(time),
+            letter,
+            &numbers,
+        );
+        Ok(())
+    }
+
+    // Flushes the complete lines, and then reports which line cannot be read.
+    pub(crate) fn bad(&mut self, line: u64) -> io::Result<()> {
+        self.flush()?;
+        writeln!(self.writer, "BAD {line}")
     }
 }

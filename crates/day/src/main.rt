@@ -4,16 +4,18 @@
 
 mod flow;
 
-ghost use Rattle.std.specs.Prelude.{◌≡◌, ◌≤◌, ◌<◌, length};
-ghost use Rattle.day.specs.Flow.{Within, Same, Underway, with_flow};
+ghost use Rattle.std.specs.Prelude.{◌≡◌, ◌+◌, ◌*◌, ◌≤◌, ◌<◌, length, IfSome, OnErr};
+ghost use Rattle.day.specs.Flow.{with_flow};
 ghost use Rattle.day.specs.Spoken.{spoken_of, day_at, ended_of};
 ghost use Rattle.day.specs.Contents.{contents_of, setup_of, is_setup, entered};
 ghost use Rattle.day.specs.Printed.{mark_of};
 
 use flow::Flow;
-use rules::{DONE, Message, PLACES, SETUP_NUMBERS, Setup};
-use std::io::{Read, Write};
-use stock::Record;
+use rules::{DONE, Message, Notice, PLACES, SETUP_NUMBERS, Setup};
+use shelf::Shelf;
+use std::io::{self, Read, Write};
+use std::marker::Model;
+use stock::{Step, Until};
 use tape::Line;
 
 // The most stocks that a day has.
@@ -22,98 +24,119 @@ const DAY_STOCKS: u32 = 8;
 // The places that so many stocks need, in each array.
 const DAY_PLACES: usize = DAY_STOCKS as usize * PLACES;
 
-// The message of a line, if it has one.
+// The numbers of so many setups.
+const DAY_NUMBERS: usize = DAY_STOCKS as usize * SETUP_NUMBERS;
+
+// Why a day ends early. Each ends it by `?`: after a refused write nothing more is read, played or written.
 #[derive(Clone, Copy)]
-enum Spoken {
-    Said { message: Message },
-    Nothing,
+enum Stop {
+    // the line of this number cannot be read
+    Bad(u64),
+    // the output has refused a write
+    Refused,
 }
 
-// How far the day has been read.
-#[derive(Clone, Copy)]
-struct Day {
-    // the next message, if the day goes on
-    letter: u8,
-    stock: u32,
-    time: u32,
-    message: Message,
-    going: bool,
-    // the number of the day's last line, and how many messages are still to be read
-    last: u64,
-    left: u32,
-    flow: Flow,
-}
-
-// The content of the lines before the messages.
-#[derive(Clone, Copy)]
-struct Opened {
-    good: bool,
-    // the number of the last of these lines, or of the one that cannot be read
-    lines: u32,
-    flow: Flow,
+impl From<io::Error> for Stop {
+    fn from(_e: io::Error) -> Stop {
+        Stop::Refused
+    }
 }
 
 // The content of the first line.
 #[derive(Clone, Copy)]
 struct Contents {
-    good: bool,
     stocks: u32,
     messages: u32,
     end: u32,
 }
 
+// A message, and what its line says beside it.
+#[derive(Clone, Copy)]
+struct Call {
+    letter: u8,
+    stock: u32,
+    time: u32,
+    message: Message,
+}
+
+// A shelf beside its places, which are lent from the day program's own arrays.
+#[derive(Drop)]
+struct Book<'a> {
+    shelf: Shelf,
+    times: &'a mut [u32],
+    prices: &'a mut [u32],
+}
+
+impl Book<'_> {
+    // Takes a step of one of the stocks.
+    fn step<S: Step>(&mut self, stock: u32, step: S) -> S::Given {
+        self.shelf.step(self.times, self.prices, stock, step)
+    }
+}
+
+// How far a day has been read.
+#[derive(Drop)]
+struct Day<R, W> {
+    flow: Flow<R, W>,
+    // the next message, if the day goes on
+    next: Option<Call>,
+    // the number of the day's last line, and how many messages are still to be read
+    last: u64,
+    left: u32,
+}
+
+// No more messages are left than the day has lines.
+impl<R, W> Model for Day<R, W> {
+    ghost use Rattle.std.specs.Prelude.{◌≤◌};
+    ghost use Rattle.day.specs.Progress.{Progress};
+
+    ghost Value = { Progress };
+
+    ghost view = { λ d. record { flow = d.flow; next = d.next; last = d.last; left = d.left } };
+
+    ghost invariant = { λ d. (d.left ≤ d.last) × (d.last ≤ 5_000_000_000) };
+}
+
 // `C stocks messages E`
-fn contents_of(line: Line) -> Contents
-    ensures stocks_bound { result.stocks ≤ 8 }
+fn contents_of(line: Line) -> Option<Contents>
+    ensures few { IfSome result (λ c. c.stocks ≤ 8) }
     ensures value { result ≡ contents_of line }
 {
-    let numbers = line.numbers;
-    let stocks = numbers[0];
-    let end = numbers[2];
-    if DAY_STOCKS < stocks {
-        return Contents {
-            good: false,
-            stocks: 0,
-            messages: 0,
-            end: 0,
-        };
+    let [stocks, messages, end, ..] = line.numbers;
+    if line.letter != b'C' || stocks == 0 || DAY_STOCKS < stocks || judge::bad_end(end) {
+        return None;
     }
-    Contents {
-        good: (line.letter == b'C') & (0 < stocks) & !judge::bad_end(end),
+    Some(Contents {
         stocks,
-        messages: numbers[1],
+        messages,
         end,
-    }
+    })
 }
 
 // Whether a line is `S tier leverage primary close`, with every number in range.
 fn is_setup(line: Line) -> bool
     ensures { result ≡ is_setup line }
 {
-    let numbers = line.numbers;
-    let setup = Setup {
-        tier: numbers[0],
-        leverage: numbers[1],
-        primary: numbers[2],
-        close: numbers[3],
-    };
-    (line.letter == b'S') & !judge::bad_setup(setup)
+    let [tier, leverage, primary, close, ..] = line.numbers;
+    line.letter == b'S'
+        && !judge::bad_setup(Setup {
+            tier,
+            leverage,
+            primary,
+            close,
+        })
 }
 
 // Enters the setup of stock i into the list.
-fn enter(list: &mut [u32], i: u32, line: Line)
-    requires { (i < 8) × (length list.old ≡ 32) }
+fn enter(list: &mut [u32], i: usize, line: Line)
+    requires { 4 * i + 4 ≤ length list.old }
     ensures { list.new ≡ entered list.old i (setup_of line.numbers) }
 {
-    let numbers = line.numbers;
-    let at = SETUP_NUMBERS * i as usize;
-    list[at] = numbers[0];
-    list[at + 1] = numbers[1];
-    list[at + 2] = numbers[2];
-    list[at + 3] = numbers[3];
+    let at = SETUP_NUMBERS * i;
+    list[at..at + SETUP_NUMBERS].copy_from_slice(&line.numbers[..SETUP_NUMBERS]);
 }
 
-// The letter of a mark.
+// The letter of a mark, which has 32 bits as a field of the C interface.
 fn mark_of(mark: u32) -> u8
     ensures { result ≡ mark_of mark }
 {
@@ -121,322 +144,156 @@ fn mark_of(mark: u32) -> u8
 }
 
 // The message of a line, if it is one.
-fn heard(line: Line) -> Spoken
+fn heard(line: Line) -> Option<Message>
     ensures { result ≡ spoken_of line.numbers line.letter }
 {
-    let letter = line.letter;
-    let numbers = line.numbers;
-    let time = numbers[1];
-    let participant = numbers[2];
-    let price = numbers[3];
-    let message = match letter {
-        b'T' => Message::Trade {
-            time,
-            price: numbers[2],
-        },
-        b'Q' => Message::Quote {
+    let Line { letter, numbers } = line;
+    match (letter, numbers) {
+        (b'T', [_, time, price, ..]) => Some(Message::Trade { time, price }),
+        (b'Q', [_, time, participant, bid, offer]) => Some(Message::Quote {
             time,
             participant,
-            bid: price,
-            offer: numbers[4],
-        },
-        b'O' => Message::Opening {
+            bid,
+            offer,
+        }),
+        (b'O', [_, time, participant, price, _]) => Some(Message::Opening {
             time,
             participant,
             price,
-        },
-        b'P' => Message::Pause { time, participant },
-        b'R' => Message::Reopening {
+        }),
+        (b'P', [_, time, participant, ..]) => Some(Message::Pause { time, participant }),
+        (b'R', [_, time, participant, price, _]) => Some(Message::Reopening {
             time,
             participant,
             price,
-        },
-        b'X' => Message::Closing {
+        }),
+        (b'X', [_, time, participant, price, _]) => Some(Message::Closing {
             time,
             participant,
             price,
-        },
-        _ => return Spoken::Nothing,
-    };
-    Spoken::Said { message }
-}
-
-// Flushes the complete lines, and then reports which line cannot be read.
-fn bad<W: Write>(writer: &mut W, output: &[u8], f: Flow, line: u64)
-    requires { f.at ≤ length output.now }
-{
-    let written = flow::flush(writer, output, f);
-    if written.live {
-        let _ = writeln!(writer, "BAD {line}");
+        }),
+        _ => None,
     }
 }
 
-// The day after its last line.
-fn ended(last: u64, flow: Flow) -> Day
-    ensures last_value { (result.last ≡ last) × (result.left ≡ 0) × Same result.flow flow }
-    ensures value { result ≡ ended_of last flow }
-{
-    let message = Message::Pause {
-        time: 0,
-        participant: 0,
-    };
-    Day {
-        letter: 0,
-        stock: 0,
-        time: 0,
-        message,
-        going: false,
-        last,
-        left: 0,
-        flow,
-    }
-}
-
-// The day at a line with a message.
-fn at_message(line: Line, message: Message, last: u64, left: u32, flow: Flow) -> Day
-    ensures last_value { (result.last ≡ last) × (result.left ≡ left) × Same result.flow flow }
-    ensures value { result ≡ day_at line message last left flow }
-{
-    let numbers = line.numbers;
-    Day {
-        letter: line.letter,
-        stock: numbers[0],
-        time: numbers[1],
-        message,
-        going: flow.live,
-        last,
-        left,
-        flow,
-    }
-}
-
-// Reads the next message. Ends the day after the last message, at a line that cannot be read, and where the output
-// is closed.
-fn next_message<R: Read, W: Write>(
-    reader: &mut R,
-    writer: &mut W,
-    input: &mut [u8],
-    output: &[u8],
-    last: u64,
-    left: u32,
-    flow: Flow,
-) -> Day
-    requires { Underway last left flow (length input.old) (length output.now) }
-    ensures { Underway result.last result.left result.flow (length input.old) (length output.now) }
-{
-    if left == 0 {
-        let written = flow::flush(writer, output, flow);
-        return ended(last, written);
-    }
-    let taken = flow::next_line(reader, writer, input, output, flow);
-    let line = taken.line;
-    let behind = taken.flow;
-    let said = heard(line);
-    if let Spoken::Said { message } = said {
-        return at_message(line, message, last, left - 1, behind);
-    }
-    let number = last - left as u64 + 1;
-    bad(writer, output, behind, number);
-    ended(last, behind)
-}
-
-// The same day, with other positions in the blocks.
-fn with_flow(d: Day, flow: Flow) -> Day
-    ensures last_value { (result.last ≡ d.last) × (result.left ≡ d.left) × Same result.flow flow }
-    ensures value { result ≡ with_flow d flow }
-{
-    let message = d.message;
-    Day {
-        letter: d.letter,
-        stock: d.stock,
-        time: d.time,
-        message,
-        going: d.going & flow.live,
-        last: d.last,
-        left: d.left,
-        flow,
-    }
-}
-
-// Plays the messages. A turn settles one moment that is due by the message's time, or, where none is, tells the
-// message and reads the next.
-fn play<R: Read, W: Write>(
-    reader: &mut R,
-    writer: &mut W,
-    input: &mut [u8],
-    output: &mut [u8],
-    times: &mut [u32],
-    prices: &mut [u32],
-    fresh: [Record; 8],
-    n: usize,
-    first: Day,
-)
-    requires { Underway first.last first.left first.flow (length input.old) (length output.old) }
-{
-    let mut book = fresh;
-    let mut d = first;
-    for turn in 0..u64::MAX {
-        if !d.going {
-            return;
+impl<R: Read, W: Write> Day<R, W> {
+    fn new(reader: R, writer: W) -> Self {
+        Day {
+            flow: Flow::new(reader, writer),
+            next: None,
+            last: 0,
+            left: 0,
         }
-        let stock = d.stock;
-        let flow = d.flow;
-        let settled = shelf::settle(book, n, times, prices, stock, d.time);
-        let notice = settled.notice;
-        let answer = notice.answer;
-        if answer.number == DONE {
-            let mark = notice.mark;
-            let after = flow::put(
-                writer,
-                output,
-                flow,
-                stock,
-                notice.time,
-                mark_of(mark),
-                answer,
-            );
-            let next = settled.book;
-            book = next;
-            d = with_flow(d, after);
-            continue;
-        }
-        let message = d.message;
-        let told = shelf::tell(book, n, times, prices, stock, message);
-        let after = flow::put(writer, output, flow, stock, d.time, d.letter, told.answer);
-        let next = told.book;
-        book = next;
-        d = next_message(reader, writer, input, output, d.last, d.left, after);
     }
-}
 
-// Reads the setups of n stocks, and lists their numbers.
-fn setups<R: Read, W: Write>(
-    reader: &mut R,
-    writer: &mut W,
-    input: &mut [u8],
-    output: &[u8],
-    list: &mut [u32],
-    flow: Flow,
-    n: u32,
-) -> Opened
-    requires { (n ≤ 8) × (length list.old ≡ 32) × Within flow (length input.old) (length output.now) }
-    ensures { (result.lines ≤ 9) × Within result.flow (length input.old) (length output.now) }
-{
-    let mut f = flow;
-    for i in 0..n {
-        let taken = flow::next_line(reader, writer, input, output, f);
-        let line = taken.line;
-        f = taken.flow;
-        if !is_setup(line) {
-            return Opened {
-                good: false,
-                lines: i + 2,
-                flow: f,
+    // Ends the day after its last line.
+    fn end(&mut self)
+        ensures { self.new ≡ ended_of self.old.last self.old.flow }
+    {
+        self.next = None;
+        self.left = 0;
+    }
+
+    // Goes on with the message of a line; `left` are behind it.
+    fn hear(&mut self, line: Line, message: Message, left: u32)
+        requires { left ≤ self.old.last }
+        ensures { self.new ≡ day_at line message self.old.last left self.old.flow }
+    {
+        let [stock, time, ..] = line.numbers;
+        self.next = Some(Call {
+            letter: line.letter,
+            stock,
+            time,
+            message,
+        });
+        self.left = left;
+    }
+
+    // Reads the next message, or ends the day after the last one.
+    fn advance(&mut self) -> Result<(), Stop>
+        ensures { OnErr result (self.new ≡ with_flow self.old self.new.flow) }
+    {
+        if self.left == 0 {
+            self.flow.flush()?;
+            self.end();
+            return Ok(());
+        }
+        let bad = Stop::Bad(self.last - u64::from(self.left) + 1);
+        let line = self.flow.next_line()?.ok_or(bad)?;
+        let message = heard(line).ok_or(bad)?;
+        self.hear(line, message, self.left - 1);
+        Ok(())
+    }
+
+    // Prints the line of a moment; the day goes on with the same message.
+    fn moment(&mut self, stock: u32, notice: Notice) -> io::Result<()>
+        ensures either { self.new ≡ with_flow self.old self.new.flow }
+        ensures err { OnErr result (self.new ≡ self.old) }
+    {
+        self.flow
+            .put(stock, notice.time, mark_of(notice.mark), notice.answer)
+    }
+
+    // Plays the messages. A turn settles one moment that is due by the message's time, or, where none is, tells the
+    // message and reads the next.
+    fn play(&mut self, mut book: Book) -> Result<(), Stop> {
+        // a loop has to end, and no contract says that a stock's moments do; no run makes so many turns
+        for _ in 0..u64::MAX {
+            let Some(call) = self.next else {
+                return Ok(());
             };
+            let notice = book.step(call.stock, Until(call.time));
+            if notice.answer.number == DONE {
+                self.moment(call.stock, notice)?;
+                continue;
+            }
+            let told = book.step(call.stock, call.message);
+            self.flow.put(call.stock, call.time, call.letter, told)?;
+            self.advance()?;
         }
-        enter(list, i, line);
+        Ok(())
     }
-    Opened {
-        good: true,
-        lines: n + 1,
-        flow: f,
+
+    // Reads the setups, and lists their numbers. It counts the stocks, since `enters` of specs/Laws says where in the
+    // whole list each setup stands, which a part of it, as `chunks_exact_mut` gives, does not show.
+    fn setups(&mut self, list: &mut [u32], stocks: usize) -> Result<(), Stop>
+        requires { 4 * stocks ≤ length list.old }
+    {
+        for i in 0..stocks {
+            let line = self.flow.next_line()?.filter(|line| is_setup(*line));
+            enter(list, i, line.ok_or(Stop::Bad(i as u64 + 2))?);
+        }
+        Ok(())
     }
-}
 
-// Sets the book up, and plays the day.
-fn start<R: Read, W: Write>(
-    reader: &mut R,
-    writer: &mut W,
-    input: &mut [u8],
-    output: &mut [u8],
-    times: &mut [u32],
-    prices: &mut [u32],
-    list: &[u32],
-    contents: Contents,
-    opened: Opened,
-)
-    requires { (opened.lines ≤ 9) × Within opened.flow (length input.old) (length output.old) }
-{
-    let n = contents.stocks as usize;
-    let messages = contents.messages;
-    let last = opened.lines as u64 + messages as u64;
-    let first = next_message(reader, writer, input, output, last, messages, opened.flow);
-    let records = shelf::blank();
-    let done = shelf::setup(records, n, times, prices, contents.end, list);
-    let fresh = done.book;
-    play(
-        reader, writer, input, output, times, prices, fresh, n, first,
-    );
-}
-
-// Lends the book its places: 512 of each array for each stock.
-fn lend<R: Read, W: Write>(
-    reader: &mut R,
-    writer: &mut W,
-    input: &mut [u8],
-    output: &mut [u8],
-    list: &[u32],
-    contents: Contents,
-    opened: Opened,
-)
-    requires { (contents.stocks ≤ 8) × (length list.now ≡ 32) × (opened.lines ≤ 9) × Within opened.flow (length input.old) (length output.old) }
-{
-    let mut times = [0; DAY_PLACES];
-    let mut prices = [0; DAY_PLACES];
-    let n = contents.stocks as usize;
-    let places = PLACES * n;
-    let fields = SETUP_NUMBERS * n;
-    start(
-        reader,
-        writer,
-        input,
-        output,
-        &mut times[..places],
-        &mut prices[..places],
-        &list[..fields],
-        contents,
-        opened,
-    );
+    // Reads and plays a whole day.
+    fn run(&mut self) -> Result<(), Stop> {
+        let line = self.flow.next_line()?;
+        let contents = line.and_then(contents_of).ok_or(Stop::Bad(1))?;
+        let stocks = contents.stocks as usize;
+        let mut list = [0; DAY_NUMBERS];
+        let list = &mut list[..SETUP_NUMBERS * stocks];
+        self.setups(list, stocks)?;
+        self.last = 1 + u64::from(contents.stocks) + u64::from(contents.messages);
+        self.left = contents.messages;
+        self.advance()?;
+        let mut times = [0; DAY_PLACES];
+        let mut prices = [0; DAY_PLACES];
+        let times = &mut times[..PLACES * stocks];
+        let prices = &mut prices[..PLACES * stocks];
+        let mut shelf = Shelf::blank(stocks);
+        let _ = shelf.setup(times, prices, contents.end, list);
+        self.play(Book {
+            shelf,
+            times,
+            prices,
+        })
+    }
 }
 
 fn main(rt: HostRuntime) {
-    let mut reader = rt.stdin();
-    let mut writer = rt.stdout();
-    let mut input = [0u8; 32768];
-    let mut output = [0u8; 32768];
-    let mut list = [0u32; 32];
-    let flow = Flow {
-        from: 0,
-        to: 0,
-        at: 0,
-        live: true,
-    };
-    let taken = flow::next_line(&mut reader, &mut writer, &mut input, &output, flow);
-    let contents = contents_of(taken.line);
-    if !contents.good {
-        bad(&mut writer, &output, taken.flow, 1);
-        return;
+    let mut day = Day::new(rt.stdin(), rt.stdout());
+    if let Err(Stop::Bad(line)) = day.run() {
+        let _ = day.flow.bad(line);
     }
-    let opened = setups(
-        &mut reader,
-        &mut writer,
-        &mut input,
-        &output,
-        &mut list,
-        taken.flow,
-        contents.stocks,
-    );
-    if !opened.good {
-        bad(&mut writer, &output, opened.flow, opened.lines as u64);
-        return;
-    }
-    lend(
-        &mut reader,
-        &mut writer,
-        &mut input,
-        &mut output,
-        &list,
-        contents,
-        opened,
-    );
 }

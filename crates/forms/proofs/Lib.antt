@@ -6,3 +6,4 @@ pub mod Promises
 pub mod Bools
 pub mod Decides
 pub mod Bits
+pub mod Zeros

@@ -7,6 +7,7 @@ use Rattle.forms.proofs.Bools.{joined}
 use Rattle.forms.proofs.Promises.{agree}
 use Rattle.forms.specs.Checks.{first}
 use Rattle.rules.specs.Numbers.{bad_end, bad_setup, rubbish, message_checks, time_checks}
+use Rattle.rules.proofs.Refusals.{agree_by_number}
 use Rattle.quotes.specs.Parts.{stock_of, bare, fitted}
 use Rattle.judge.specs.Verdict.{verdict_of}
 use Rattle.judge.specs.Laws.{EarliestIs, RubbishIs, SettlingAsksNoQuotes, Laws}
@@ -30,6 +31,6 @@ laws = record {
   bad_end_determined = λ end. agree (bad_end end);
   bad_setup_determined = λ u. agree (bad_setup u);
   judged_determined = λ f k q. agree (verdict_of f (stock_of k q));
-  message_refusal_determined = λ m held earliest k q. agree (first (message_checks m held earliest (stock_of (fitted k) q)));
-  settle_refusal_determined = λ time earliest k. agree (first (time_checks time earliest (bare k)));
+  message_refusal_determined = λ m held earliest k q. agree_by_number (first (message_checks m held earliest (stock_of (fitted k) q)));
+  settle_refusal_determined = λ time earliest k. agree_by_number (first (time_checks time earliest (bare k)));
 }

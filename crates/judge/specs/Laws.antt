@@ -6,6 +6,7 @@ use Rattle.forms.specs.Promises.{Determines}
 use Rattle.rules.specs.Stock.{Whole, clock_of, figures_of}
 use Rattle.rules.specs.Moments.{next_of}
 use Rattle.rules.specs.Numbers.{bad_end, bad_setup, bad_trades, rubbish, message_checks, time_checks}
+use Rattle.rules.specs.Refusals.{refused_by}
 use Rattle.quotes.specs.Parts.{stock_of, bare, fitted}
 use Rattle.quotes.specs.declared.Kept.{Kept}
 use Rattle.judge.specs.Verdict.{verdict_of}
@@ -37,5 +38,5 @@ pub record Laws : Type 0 where
   pub bad_setup_determined : (u : Setup) → Determines (λ r. r ≡ bad_setup u)
   pub judged_determined : (f : Figures) (k : Kept) (q : Quotes) → Determines (λ r. r ≡ verdict_of f (stock_of k q))
   pub message_refusal_determined : (m : Message) (held : ℕ) (earliest : Moment) (k : Kept) (q : Quotes)
-      → Determines (λ r. r ≡ first (message_checks m held earliest (stock_of (fitted k) q)))
-  pub settle_refusal_determined : (time : ℕ) (earliest : Moment) (k : Kept) → Determines (λ r. r ≡ first (time_checks time earliest (bare k)))
+      → Determines (λ r. refused_by r ≡ first (message_checks m held earliest (stock_of (fitted k) q)))
+  pub settle_refusal_determined : (time : ℕ) (earliest : Moment) (k : Kept) → Determines (λ r. refused_by r ≡ first (time_checks time earliest (bare k)))

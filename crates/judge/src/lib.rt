@@ -6,21 +6,20 @@
 ghost use Rattle.std.specs.Prelude.{◌≡◌};
 ghost use Rattle.forms.specs.Checks.{first};
 ghost use Rattle.rules.specs.Numbers.{bad_end, bad_setup, message_checks, time_checks};
+ghost use Rattle.rules.specs.Refusals.{refused_by};
 ghost use Rattle.quotes.specs.Parts.{stock_of, bare, fitted};
 ghost use Rattle.judge.specs.Verdict.{verdict_of};
 
 use quotes::Kept;
-use rules::{
-    BEFORE_CLOCK, DONE, Figures, LAST_PARTICIPANT, Message, Moment, NOT_PRIMARY, NOTHING_DUE,
-    OUT_OF_RANGE, Quotes, Setup, UNSETTLED,
-};
+use rules::{Figures, Message, Moment, Quotes, Refusal, Setup};
 
 mod message;
 mod moment;
 mod range;
 mod table;
 
-// The verdict on a stock: its earliest moment, mark 0 where there is none, and whether it is rubbish.
+// The verdict on a stock: its earliest moment, mark 0 where there is none, and whether it is rubbish. The moment is
+// beside the flag and not in an Option, since `judge.verdict_of` gives that of a rubbish stock too.
 #[derive(Clone, Copy)]
 pub struct Verdict {
     pub earliest: Moment,
@@ -40,14 +39,14 @@ pub fn bad_setup(u: Setup) -> bool
 {
     let tier = u.tier;
     let leverage = u.leverage;
-    let primary = u.primary;
+    let primary = range::not_participant(u.primary);
     let close = range::not_price(u.close);
     (tier == 0)
         | (2 < tier)
         | (leverage == 0)
         | (3 < leverage)
         | ((tier == 1) & (1 < leverage))
-        | (LAST_PARTICIPANT < primary)
+        | primary
         | close
 }
 
@@ -65,39 +64,42 @@ pub fn judged(f: Figures, k: Kept, q: Quotes) -> Verdict
     }
 }
 
-// The number that refuses a message to a stock that is no rubbish, 0 where it is accepted.
-pub fn message_refusal(m: Message, held: u64, earliest: Moment, k: Kept, q: Quotes) -> u32
-    ensures { result ≡ first (message_checks m held earliest (stock_of (fitted k) q)) }
+// Why a message to a stock that is no rubbish is refused.
+pub fn message_refusal(
+    m: Message,
+    held: u64,
+    earliest: Moment,
+    k: Kept,
+    q: Quotes,
+) -> Result<(), Refusal>
+    ensures { refused_by result ≡ first (message_checks m held earliest (stock_of (fitted k) q)) }
 {
     let time = letters::time_of(m);
     if message::out_of_range(k.end, m) {
-        return OUT_OF_RANGE;
+        return Err(Refusal::OutOfRange);
     }
     if time < k.course.clock {
-        return BEFORE_CLOCK;
+        return Err(Refusal::BeforeClock);
     }
     if moment::is_due(time, earliest) {
-        return UNSETTLED;
+        return Err(Refusal::Unsettled);
     }
     if message::not_primary(k.setup.primary, m) {
-        return NOT_PRIMARY;
+        return Err(Refusal::NotPrimary);
     }
-    let number = table::taken(message::kind_of(m), k.course.state);
-    if number != DONE {
-        return number;
-    }
+    table::taken(message::kind_of(m), k.course.state)?;
     message::own_refusal(m, held, k, q)
 }
 
-// The number that refuses to settle a stock that is no rubbish to a time, 0 where its next moment is due.
-pub fn settle_refusal(time: u32, earliest: Moment, k: Kept) -> u32
-    ensures { result ≡ first (time_checks time earliest (bare k)) }
+// Why settling a stock that is no rubbish to a time is refused.
+pub fn settle_refusal(time: u32, earliest: Moment, k: Kept) -> Result<(), Refusal>
+    ensures { refused_by result ≡ first (time_checks time earliest (bare k)) }
 {
     if range::not_time(k.end, time) {
-        return OUT_OF_RANGE;
+        return Err(Refusal::OutOfRange);
     }
-    if moment::is_due(time, earliest) {
-        return DONE;
+    if !moment::is_due(time, earliest) {
+        return Err(Refusal::NothingDue);
     }
-    NOTHING_DUE
+    Ok(())
 }

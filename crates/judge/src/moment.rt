@@ -16,7 +16,8 @@ const AT_W: u64 = band::DOUBLED_UNTIL as u64;
 
 const AT_F: u64 = FIRST_FIVE as u64;
 
-// The earlier of a row and what the rows after it give; of two at one time the row.
+// The earlier of a row and what the rows after it give; of two at one time the row. `comes` is a flag beside the row and
+// no Option, since a row of `rules.moment_table` has it and its time is computed whether it comes or not, without a branch.
 fn sooner(mark: u32, time: u64, comes: bool, after: Moment) -> Moment
     ensures { result ≡ moments.sooner (mark at time while comes) after }
 {
@@ -36,15 +37,11 @@ fn from_v(f: Figures, k: Kept) -> Moment
     let hold = k.reference.hold;
     let oldest = f.oldest as u64;
     let count = f.count;
-    let none = Moment {
-        mark: MARK_NONE,
-        time: 0,
-    };
     let h = sooner(
         MARK_H,
         start + HOLD,
         (TRADING <= state) & (state <= LATE) & (hold != 0),
-        none,
+        Moment::default(),
     );
     let f = sooner(MARK_F, AT_F, (state == WAITING) & (early != 0), h);
     sooner(MARK_V, oldest + WINDOW, (state <= LATE) & (count != 0), f)
@@ -78,7 +75,8 @@ pub(crate) fn next(f: Figures, k: Kept) -> Moment
     sooner(MARK_Z, end, state <= LIMIT, early)
 }
 
-// Whether there is a moment that is not after the time.
+// Whether there is a moment that is not after the time; the next function differs in the comparison, as
+// `rules.past_at` does from `rules.due_by`.
 pub(crate) fn is_due(time: u32, m: Moment) -> bool
     ensures { result ≡ due_by time m }
 {

@@ -2,12 +2,13 @@
 ghost use Rattle.std.specs.Prelude.{◌≡◌, false, ◌≤◌};
 ghost use mathlib.Core.List.{foldl};
 ghost use Rattle.quotes.specs.Parts.{bare};
-ghost use Rattle.rules.specs.Numbers.{not_price, not_time, bad_times, or_not_side, bad_quotes, not_reference, bad_reference, bad_stock};
+ghost use Rattle.rules.specs.Numbers.{not_price, not_participant, not_time, bad_times, or_not_side, bad_quotes, not_reference, bad_reference, bad_stock};
 
 use band::Mean;
 use quotes::Kept;
 use rules::{
-    AFTER_END, CLOSED, HIGHEST_PRICE, LATE, LATE_BEFORE_END, MOST_TRADES, PAUSED, Quotes, TRADING,
+    AFTER_END, CLOSED, HIGHEST_PRICE, LAST_PARTICIPANT, LATE, LATE_BEFORE_END, MOST_TRADES, PAUSED,
+    Quotes, TRADING,
 };
 
 // A stock holds at most this many trades, and a reference is of at most this many prices.
@@ -21,6 +22,13 @@ pub(crate) fn not_price(price: u32) -> bool
     ensures { result ≡ not_price price }
 {
     (price == 0) | (HIGHEST_PRICE < price)
+}
+
+// Whether a number is no participant.
+pub(crate) fn not_participant(participant: u32) -> bool
+    ensures { result ≡ not_participant participant }
+{
+    LAST_PARTICIPANT < participant
 }
 
 // Whether a time is after the last, `end` + 300,000.
@@ -46,22 +54,16 @@ fn bad_times(k: Kept) -> bool
 fn bits_of(sides: [u32; 16]) -> u32
     ensures { result ≤ 999_999_999 → foldl or_not_side false sides ≡ false }
 {
-    let mut bits: u32 = 0;
-    for i in 0..16 {
-        bits = bits | sides[i];
-    }
-    bits
+    sides.iter().fold(0, |bits, side| bits | *side)
 }
 
 // Whether one was bad before, or one of these sides is out of range.
 fn or_not_sides(bad: bool, sides: [u32; 16]) -> bool
     ensures { result ≡ foldl or_not_side bad sides }
 {
-    let mut any = bad;
-    for i in 0..16 {
-        any = any | (HIGHEST_PRICE < sides[i]);
-    }
-    any
+    sides
+        .iter()
+        .fold(bad, |any, side| any | (HIGHEST_PRICE < *side))
 }
 
 // Whether a bid or an offer is out of range; the OR of all sides nearly always decides it.

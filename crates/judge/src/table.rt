@@ -1,17 +1,18 @@
 // The table of message by state.
-ghost use Rattle.std.specs.Prelude.{◌<◌, ◌≡◌};
+ghost use Rattle.std.specs.Prelude.{◌<◌, ◌≡◌, ◌⊎◌};
 ghost use Rattle.rules.specs.Messages as messages;
+ghost use Rattle.rules.specs.Refusals.{refused_by};
 
-use rules::{CLOSED_STOCK, DONE, IN_PAUSE, WRONG_STATE};
+use rules::{DONE, Refusal};
 
-// The entries of the table, in bytes: the table is on the stack of a call.
+// The entries of the table, numbers in bytes, since document 01 names that form.
 const TAKEN: u8 = DONE as u8;
 
-const WRONG: u8 = WRONG_STATE as u8;
+const WRONG: u8 = Refusal::WrongState as u8;
 
-const PAUSE: u8 = IN_PAUSE as u8;
+const PAUSE: u8 = Refusal::InPause as u8;
 
-const ENDED: u8 = CLOSED_STOCK as u8;
+const ENDED: u8 = Refusal::ClosedStock as u8;
 
 // T, Q, O, P, R and X by the states 0 to 5: 0, or the number that refuses the message.
 const TAKES: [[u8; 6]; 6] = [
@@ -23,21 +24,28 @@ const TAKES: [[u8; 6]; 6] = [
     [WRONG, WRONG, WRONG, WRONG, TAKEN, ENDED],
 ];
 
-// The number of an entry.
-fn number_of(entry: u8) -> u32
-    ensures { result ≡ entry }
+// What an entry says.
+fn said(entry: u8) -> Result<(), Refusal>
+    requires { (entry ≡ 0) ⊎ (entry ≡ 9) ⊎ (entry ≡ 11) ⊎ (entry ≡ 7) }
+    ensures { refused_by result ≡ entry }
 {
-    entry as u32
+    match entry {
+        TAKEN => Ok(()),
+        WRONG => Err(Refusal::WrongState),
+        PAUSE => Err(Refusal::InPause),
+        ENDED => Err(Refusal::ClosedStock),
+        _ => unreachable!(),
+    }
 }
 
-// The entry of a kind of message and a state; a state over 5 refuses as Closed does.
-pub(crate) fn taken(kind: usize, state: u32) -> u32
+// Whether the state takes the kind of message, or why not; a state over 5 refuses as Closed does.
+pub(crate) fn taken(kind: usize, state: u32) -> Result<(), Refusal>
     requires { kind < 6 }
-    ensures { result ≡ messages.taken kind state }
+    ensures { refused_by result ≡ messages.taken kind state }
 {
     let column = state as usize;
     if column < 6 {
-        return number_of(TAKES[kind][column]);
+        return said(TAKES[kind][column]);
     }
-    CLOSED_STOCK
+    Err(Refusal::ClosedStock)
 }

@@ -1,5 +1,6 @@
 // Builds the message of each letter from its numbers, in the order of document 01, and gives a message's time. No
-// function has a `requires`: the book checks the ranges.
+// function has a `requires`: the book checks the ranges. The six builders stay one for each letter: docs/PROMISES.md has a
+// promise of each, the must-fail edits name each, and a generic one would be no plainer.
 #![tactic(auto)]
 
 ghost use Rattle.std.specs.Prelude.{◌≡◌};
@@ -72,11 +73,11 @@ pub fn time_of(m: Message) -> u32
     ensures { result ≡ time_of m }
 {
     match m {
-        Message::Trade { time, .. } => time,
-        Message::Quote { time, .. } => time,
-        Message::Opening { time, .. } => time,
-        Message::Pause { time, .. } => time,
-        Message::Reopening { time, .. } => time,
-        Message::Closing { time, .. } => time,
+        Message::Trade { time, .. }
+        | Message::Quote { time, .. }
+        | Message::Opening { time, .. }
+        | Message::Pause { time, .. }
+        | Message::Reopening { time, .. }
+        | Message::Closing { time, .. } => time,
     }
 }

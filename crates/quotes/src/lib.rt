@@ -14,7 +14,8 @@ use rules::{Best, Course, Quotes, Reference, Setup, Side};
 
 mod side;
 
-// A stock without its quotes.
+// A stock without its quotes. Functions take it and, only where they need them, the quotes or the window's figures
+// beside it: one struct of all three would be copied at every call that is not inlined (docs/ARCHITECTURE.md).
 #[derive(Clone, Copy)]
 pub struct Kept {
     pub setup: Setup,
@@ -43,7 +44,7 @@ pub struct Shown {
     pub best: Best,
 }
 
-// The numbers that the bands of a stock depend on.
+// The numbers that the bands of a stock depend on; no From, since docs/PROMISES.md names this function and its promise.
 pub fn basis_of(k: Kept) -> Basis
     ensures { result ≡ basis_of k }
 {
@@ -64,11 +65,10 @@ pub fn basis_of(k: Kept) -> Basis
 pub fn show(b: Basis, q: Quotes) -> Shown
     ensures { result ≡ shown_of (stock_by b q) }
 {
-    let on = side::in_force(b);
-    let bands = side::bands_in(b);
-    let prices = side::best_prices(on, bands.lower, bands.upper, q);
-    let bid_flag = side::bid_flag(on, bands, prices.bid);
-    let offer_flag = side::offer_flag(on, bands, prices.offer);
+    let bands = side::in_force(b).then(|| side::bands_at(b));
+    let prices = side::best_prices(bands, q);
+    let bid_flag = side::bid_flag(bands, prices.bid);
+    let offer_flag = side::offer_flag(bands, prices.offer);
     let best = Best {
         bid: Side {
             price: prices.bid,
@@ -79,15 +79,17 @@ pub fn show(b: Basis, q: Quotes) -> Shown
             flag: offer_flag,
         },
     };
-    Shown { bands, best }
+    Shown {
+        bands: bands.unwrap_or_default(),
+        best,
+    }
 }
 
 // Whether a price is outside bands in force.
 pub fn is_outside(b: Basis, price: u32) -> bool
     ensures { result ≡ outside (stock_by b no_quotes) price }
 {
-    let on = side::in_force(b);
-    let bands = side::bands_in(b);
     let p = price as u64;
-    on & ((p < bands.lower) | (bands.upper < p))
+    let bands = side::in_force(b).then(|| side::bands_at(b));
+    bands.is_some_and(|bands| (p < bands.lower) | (bands.upper < p))
 }

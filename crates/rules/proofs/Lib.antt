@@ -32,6 +32,7 @@ pub mod BestQuotes
 pub mod Ranges
 pub mod Coming
 pub mod Numbers
+pub mod Refusals
 pub mod Reasons
 pub mod Counted
 pub mod Answers

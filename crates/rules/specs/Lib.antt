@@ -8,6 +8,7 @@ pub mod States
 pub mod Moments
 pub mod Messages
 pub mod Numbers
+pub mod Refusals
 pub mod Machine
 pub mod Totals
 pub mod Counted

@@ -1,8 +1,9 @@
 -- Records before any setup: every number is 0.
 -- Assumes nothing.
-use Rattle.std.specs.Prelude.{List, replicate}
+use Rattle.std.specs.Prelude.{ℕ, List, replicate}
 use Rattle.rules.specs.Totals.{no_totals}
 use Rattle.stock.specs.declared.Record.{Record}
+use Rattle.shelf.specs.declared.Shelf.{Shelf}
 
 abbrev pub blank_record : Record
 blank_record = record {
@@ -17,6 +18,10 @@ blank_record = record {
   totals = no_totals;
 }
 
--- the promise of `blank`: eight such records
+-- eight such records
 abbrev pub blank_records : List Record
 blank_records = replicate 8 blank_record
+
+-- the promise of `blank`
+abbrev pub blank_shelf : ℕ → Shelf
+blank_shelf n = record { records = blank_records; stocks = n }

@@ -1,87 +1,64 @@
-// A book of at most eight stocks by value, so that a program can keep it in a local variable; the first n records
-// are the book. No function has a `requires`: where n is over eight, the answer is number 1 and nothing changes.
+// A book of at most eight stocks with records of its own, so that a program can keep it in a local variable; the
+// first records, as many as it has stocks, are the book. No function has a `requires`: where it has over eight
+// stocks, the answer is number 1 and nothing changes.
 #![tactic(auto)]
 
 ghost use Rattle.std.specs.Prelude.{◌≡◌};
-ghost use Rattle.shelf.specs.Blank.{blank_records};
-ghost use Rattle.shelf.specs.First.{Within, SetsUpFirst, TellsFirst, SettlesFirst, Same, untold, unsettled};
+ghost use Rattle.shelf.specs.Blank.{blank_shelf};
+ghost use Rattle.rules.specs.Numbers.{zeros};
+ghost use Rattle.stock.specs.View.{made};
+ghost use Rattle.shelf.specs.First.{shelved, SetsUpFirst, StepsFirst, undone, Same, Within};
 
-use rules::{Answer, Message, Notice};
-use stock::Record;
+use rules::{Answer, RUBBISH};
+use stock::{Record, Reply, Step};
 
-mod lend;
-mod refuse;
-mod zero;
-
-// An answer, with the next records.
+// The records, and how many of them are the book.
 #[derive(Clone, Copy)]
-pub struct Told8 {
-    pub answer: Answer,
-    pub book: [Record; 8],
+pub struct Shelf {
+    pub records: [Record; 8],
+    pub stocks: usize,
 }
 
-// Settling's notice, with the next records.
-#[derive(Clone, Copy)]
-pub struct Settled8 {
-    pub notice: Notice,
-    pub book: [Record; 8],
-}
-
-// Eight records before any setup.
-pub fn blank() -> [Record; 8]
-    ensures { result ≡ blank_records }
-{
-    let one = zero::record();
-    [one; 8]
-}
-
-// Sets up the first n stocks.
-pub fn setup(
-    book: [Record; 8],
-    n: usize,
-    times: &mut [u32],
-    prices: &mut [u32],
-    end: u32,
-    setups: &[u32],
-) -> Told8
-    ensures { Within n (SetsUpFirst n end setups.now book times.old prices.old result times.new prices.new) (Same result (untold book) times.old prices.old times.new prices.new) }
-{
-    if 8 < n {
-        return refuse::told(book);
+impl Shelf {
+    // A shelf before any setup.
+    pub fn blank(stocks: usize) -> Shelf
+        ensures { result ≡ blank_shelf stocks }
+    {
+        Shelf {
+            records: [Record::default(); 8],
+            stocks,
+        }
     }
-    lend::setup(book, n, times, prices, end, setups)
-}
 
-// Tells one of the first n stocks a message.
-pub fn tell(
-    book: [Record; 8],
-    n: usize,
-    times: &mut [u32],
-    prices: &mut [u32],
-    stock: u32,
-    message: Message,
-) -> Told8
-    ensures { Within n (TellsFirst n stock message book times.old prices.old result times.new prices.new) (Same result (untold book) times.old prices.old times.new prices.new) }
-{
-    if 8 < n {
-        return refuse::told(book);
+    // Sets up every stock.
+    pub fn setup(
+        &mut self,
+        times: &mut [u32],
+        prices: &mut [u32],
+        end: u32,
+        setups: &[u32],
+    ) -> Answer
+        ensures { Within self.old.stocks (SetsUpFirst end setups.now (shelved self.old times.old prices.old) result (shelved self.new times.new prices.new)) (Same result (undone zeros) (shelved self.old times.old prices.old) (shelved self.new times.new prices.new)) }
+    {
+        if self.records.len() < self.stocks {
+            return Answer::beside(RUBBISH);
+        }
+        book::setup(&mut self.records[..self.stocks], times, prices, end, setups)
     }
-    lend::tell(book, n, times, prices, stock, message)
-}
 
-// Settles one of the first n stocks to a time.
-pub fn settle(
-    book: [Record; 8],
-    n: usize,
-    times: &mut [u32],
-    prices: &mut [u32],
-    stock: u32,
-    time: u32,
-) -> Settled8
-    ensures { Within n (SettlesFirst n stock time book times.old prices.old result times.new prices.new) (Same result (unsettled book) times.old prices.old times.new prices.new) }
-{
-    if 8 < n {
-        return refuse::settled(book);
+    // Takes a step of one of the stocks.
+    pub fn step<S: Step>(
+        &mut self,
+        times: &mut [u32],
+        prices: &mut [u32],
+        stock: u32,
+        step: S,
+    ) -> S::Given
+        ensures { Within self.old.stocks (StepsFirst stock (made (S.rule step) S.Given.beside) S.Given.beside (shelved self.old times.old prices.old) result (shelved self.new times.new prices.new)) (Same result (undone S.Given.beside) (shelved self.old times.old prices.old) (shelved self.new times.new prices.new)) }
+    {
+        if self.records.len() < self.stocks {
+            return S::Given::beside(RUBBISH);
+        }
+        book::step(&mut self.records[..self.stocks], times, prices, stock, step)
     }
-    lend::settle(book, n, times, prices, stock, time)
 }

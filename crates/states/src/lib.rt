@@ -10,11 +10,13 @@ ghost use Rattle.quotes.specs.Parts.{stock_of, fitted};
 ghost use Rattle.states.specs.After.{fit, effect_of, after_of};
 
 use quotes::{Kept, Shown};
+use room::{Held, Ready};
 use rules::{Figures, Message, Quotes};
 
 mod look;
+mod quoted;
+mod room;
 mod rule;
-mod set;
 
 // A stock after a step, and what it shows.
 #[derive(Clone, Copy)]
@@ -25,20 +27,21 @@ pub struct After {
 }
 
 // The stock after an accepted message, with the figures of the window that it leaves.
+#[tactic(auto, unfolding(crate::specs::After::effect_of))]
 pub fn after_message(m: Message, f: Figures, k: Kept, q: Quotes) -> After
     ensures { result ≡ after_of (effect_of m (fit f) (stock_of (fitted k) q)) }
 {
-    let g = rule::fitted(f);
+    let held = Held::of(f);
     let time = letters::time_of(m);
-    let turn = rule::message(m, g, set::at_time(time, set::fitted(k)));
-    look::left(turn, g, set::quotes_told(m, q))
+    let turn = rule::message(m, held, Ready::of(k).at_time(time));
+    look::left(turn, held, quoted::told(m, q))
 }
 
-// The stock after a moment, by its mark and its time, with the figures of the window that it leaves.
+// The stock after a moment, by its mark and its time, with the figures of the window that it leaves; the mark is a
+// number, since `rules.effect` says what any number gives.
 pub fn after_moment(mark: u32, time: u32, f: Figures, k: Kept, q: Quotes) -> After
     ensures { result ≡ after_of (effect mark (fit f) (at_time time (stock_of (fitted k) q))) }
 {
-    let g = rule::fitted(f);
-    let turn = rule::moment(mark, g, set::at_time(time, set::fitted(k)));
-    look::turned(turn, set::quotes_at(mark, q))
+    let turn = rule::moment(mark, Held::of(f), Ready::of(k).at_time(time));
+    look::turned(turn, quoted::at(mark, q))
 }

@@ -1,19 +1,19 @@
 // The look at the quotes, which can end Limit and can begin it.
-ghost use Rattle.std.specs.Prelude.{◌≡◌, not, [], ◌∷◌, eqb};
-ghost use Rattle.forms.specs.Choice.{all_of};
-ghost use Rattle.rules.specs.Stock.{Limit};
+ghost use Rattle.std.specs.Prelude.{◌≡◌};
 ghost use Rattle.rules.specs.Quotes.{best_of, flagged, crossed};
 ghost use Rattle.rules.specs.States.{look};
-ghost use Rattle.quotes.specs.Parts.{stock_of, Room};
-ghost use Rattle.states.specs.After.{Fits, after_of};
-ghost use Rattle.states.specs.Turns.{turned_to, left_to};
+ghost use Rattle.quotes.specs.Parts.{stock_of};
+ghost use Rattle.states.specs.After.{after_of};
+ghost use Rattle.states.specs.Turns.{kept_in, ends_limit, turned_to, left_to};
 
+use crate::room::{Held, Ready};
 use crate::rule::Turn;
-use crate::{After, rule, set};
+use crate::{After, rule};
 use quotes::Kept;
-use rules::{Best, FLAG_LIMIT, Figures, LIMIT, Quotes, TRADING};
+use rules::{Best, FLAG_LIMIT, LIMIT, Quotes, TRADING};
 
 // Whether a side has flag 3.
+#[tactic(auto, using(forms::proofs::Bools::joined), unfolding(rules::specs::Quotes::flagged))]
 fn at_limit(b: Best) -> bool
     ensures { result ≡ flagged 3 b }
 {
@@ -21,83 +21,77 @@ fn at_limit(b: Best) -> bool
 }
 
 // Whether the best bid is above the best offer.
+#[tactic(auto, using(forms::proofs::Bools::joined, forms::proofs::Choice::tests), unfolding(rules::specs::Quotes::crossed))]
 fn is_crossed(b: Best) -> bool
     ensures { result ≡ crossed b }
 {
     (b.offer.price != 0) & (b.offer.price < b.bid.price)
 }
 
-// Whether Limit is over: neither side has flag 3.
-fn is_over(state: u32, b: Best) -> bool
-    ensures { result ≡ all_of (eqb state Limit ∷ not (flagged 3 b) ∷ []) }
+// Whether a turn ends Limit: its quotes are looked at, and neither side has flag 3.
+#[tactic(auto, using(forms::proofs::Bools::joined), unfolding(crate::specs::Turns::ends_limit))]
+fn ends_limit(t: Turn, b: Best) -> bool
+    ensures { result ≡ ends_limit t b }
 {
-    (state == LIMIT) & !at_limit(b)
+    match t {
+        Turn::Still(_) => false,
+        Turn::Looking(k) => (k.kept.course.state == LIMIT) & !at_limit(b),
+    }
 }
 
 // Enters Limit from Trading, if a best quote is at its limit band and the quotes do not cross.
-fn entered(b: Best, k: Kept) -> Kept
-    ensures { (q : Quotes) → b ≡ best_of (stock_of k q) → stock_of result q ≡ look (stock_of k q) }
+#[tactic(auto, using(forms::proofs::Bools::joined, forms::proofs::Choice::tests), unfolding(rules::specs::States::look))]
+fn entered(b: Best, k: Ready) -> Kept
+    ensures { (q : Quotes) → b ≡ best_of (stock_of k.kept q) → stock_of result q ≡ look (stock_of k.kept q) }
 {
-    if (k.course.state == TRADING) & at_limit(b) & !is_crossed(b) {
-        return set::enter_limit(k);
+    if (k.kept.course.state == TRADING) & at_limit(b) & !is_crossed(b) {
+        return k.enter_limit().kept;
     }
-    k
+    k.kept
+}
+
+// The stock of a turn, looked at where the turn says so, by the best quotes that it shows.
+#[tactic(auto, using(forms::proofs::Choice::by_case), unfolding(crate::specs::Turns::turned_to))]
+fn seen(t: Turn, b: Best) -> Kept
+    ensures { (q : Quotes) → b ≡ best_of (stock_of (kept_in t) q) → stock_of result q ≡ turned_to t q }
+{
+    match t {
+        Turn::Still(k) => k.kept,
+        Turn::Looking(k) => entered(b, k),
+    }
 }
 
 // The stock after a turn; entering Limit changes nothing that the stock shows.
 pub(crate) fn turned(t: Turn, q: Quotes) -> After
-    requires { Room t.kept }
     ensures { result ≡ after_of (turned_to t q) }
 {
-    let k = t.kept;
-    let basis = quotes::basis_of(k);
-    let shown = quotes::show(basis, q);
-    let looks = t.looks;
-    if looks {
-        let best = shown.best;
-        return After {
-            kept: entered(best, k),
-            quotes: q,
-            shown,
-        };
-    }
+    let k = t.kept();
+    let shown = quotes::show(quotes::basis_of(k.kept), q);
     After {
-        kept: k,
+        kept: seen(t, shown.best),
         quotes: q,
         shown,
     }
 }
 
-// The stock after a turn that may end Limit.
-pub(crate) fn left(t: Turn, f: Figures, q: Quotes) -> After
-    requires { Fits f × Room t.kept }
-    ensures { result ≡ after_of (left_to t f q) }
+// The stock after a turn that may end Limit. Its last lines are those of `turned`, which is not called: such a function
+// with two call sites was not inlined, and a quote took 1.36 of the second program, not 0.86 (docs/DECISIONS.md).
+pub(crate) fn left(t: Turn, f: Held, q: Quotes) -> After
+    ensures { result ≡ after_of (left_to t f.figures q) }
 {
-    let k = t.kept;
-    let basis = quotes::basis_of(k);
-    let shown = quotes::show(basis, q);
-    let looks = t.looks;
-    if looks {
-        let best = shown.best;
-        if is_over(k.course.state, best) {
-            let n = rule::leave(f, k);
-            let anew = quotes::basis_of(n);
-            let again = quotes::show(anew, q);
-            let b = again.best;
-            return After {
-                kept: entered(b, n),
-                quotes: q,
-                shown: again,
-            };
-        }
+    let k = t.kept();
+    let shown = quotes::show(quotes::basis_of(k.kept), q);
+    if ends_limit(t, shown.best) {
+        let n = rule::leave(f, k);
+        let again = quotes::show(quotes::basis_of(n.kept), q);
         return After {
-            kept: entered(best, k),
+            kept: entered(again.best, n),
             quotes: q,
-            shown,
+            shown: again,
         };
     }
     After {
-        kept: k,
+        kept: seen(t, shown.best),
         quotes: q,
         shown,
     }

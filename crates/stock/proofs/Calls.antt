@@ -10,7 +10,8 @@ use native.Mathlib.Omega.{arith}
 use borrow.Author.Tests.{eq-eqb, ne_eqb, le-leb, ltb-false, leb-false, leb-true, eqb-true, not-true}
 use lib.Dec.{eqb}
 use lib.ListN.{length, length-append, length-map}
-use Rattle.forms.specs.Choice.{if◌then◌otherwise◌, all_of, any_of}
+use Rattle.std.proofs.Common.{Option, Some, None}
+use Rattle.forms.specs.Choice.{if◌then◌otherwise◌, any_of}
 use Rattle.forms.proofs.Choice.{if_true, if_false, if_arms, all_head, all_tail, all_yes, all_empty, any_head, any_tail}
 use Rattle.forms.specs.Checks.{first}
 use Rattle.forms.proofs.Checks.{beyond}
@@ -52,13 +53,14 @@ use Rattle.totals.specs.Bringing.{bringing}
 use Rattle.totals.proofs.Laws.{bringing_is}
 use Rattle.states.specs.declared.After.{After}
 use Rattle.window.specs.Places.{trades, whole, laid, Written}
-use Rattle.window.proofs.Window.{length_trades, placed_fits}
-use Rattle.stock.proofs.Sights.{SeenOf, message_number_is, settle_number_is, sound_unless_1, sound_where_done}
-use Rattle.stock.specs.View.{Bytes, bytes, holding, view, lay, in_shape, shaped, Outcome, telling, settling, Tells, Settles, reading, coming, totalling}
-use Rattle.stock.specs.Steps.{record_of, Seen, message_number, settle_number, Fits, answer_by, Held, Makes}
+use Rattle.window.proofs.Window.{length_trades, placed_fits, rest_most}
+use Rattle.stock.proofs.Sights.{SeenOf, Found, found, missed, message_number_is, settle_number_is, some_unless}
+use Rattle.stock.specs.View.{Bytes, bytes, holding, view, lay, in_shape, shaped, Outcome, made, telling, settling, Tells, Settles, asked, reading, coming, totalling}
+use Rattle.stock.specs.Window.{Held}
+use Rattle.stock.specs.Steps.{record_of, seen_of, message_number, settle_number, Fits, answer_by, Makes}
 use Rattle.stock.specs.declared.Record.{Record}
 use Rattle.stock.specs.declared.sight.Sight.{Sight}
-use Rattle.stock.specs.declared.steps.Step.{Step}
+use Rattle.stock.specs.declared.steps.Effect.{Effect}
 
 -- ------------------------------------------------------------------ the window has room
 
@@ -94,18 +96,15 @@ fired_few h e = omega (arith, no_more (next_of h) h.window, held_few h e)
 
 -- ------------------------------------------------------------------ what is seen holds of the places
 
-module _ (b : Bytes) (g : Sight) (k : SeenOf b g) (s : g.sound ≡ true) where
-  tests : all_of (shaped b ∷ not (rubbish (view b).whole) ∷ not (wrong (view b)) ∷ []) ≡ true
-  tests = sym k.sound ∙ s
-
+module _ (b : Bytes) (g : Sight) (k : Found b g) where
   in_shape_lem : shaped b ≡ true
-  in_shape_lem = all_head _ _ tests
+  in_shape_lem = all_head _ _ k.tests
 
   no_rubbish : rubbish (view b).whole ≡ false
-  no_rubbish = not-true _ (all_head _ _ (all_tail _ _ tests))
+  no_rubbish = not-true _ (all_head _ _ (all_tail _ _ k.tests))
 
   not_wrong : ¬ Wrong (view b)
-  not_wrong = (wrong_is _ b.kept.totals).fails (not-true _ (all_head _ _ (all_tail _ _ (all_tail _ _ tests))))
+  not_wrong = (wrong_is _ b.kept.totals).fails (not-true _ (all_head _ _ (all_tail _ _ (all_tail _ _ k.tests))))
 
   times_512 : length b.times ≡ 512
   unfolding in_shape
@@ -120,19 +119,19 @@ module _ (b : Bytes) (g : Sight) (k : SeenOf b g) (s : g.sound ≡ true) where
 
   same_count : g.figures.count ≡ b.kept.count
   unfolding figures_of
-  same_count = ap (λ f. f.count) (k.figures s) ∙ length_trades b.kept.count b.times b.prices
+  same_count = ap (λ f. f.count) k.figures ∙ length_trades b.kept.count b.times b.prices
 
   pub held : Held g.figures b.times b.prices
   unfolding whole
   held = record {
     places = rw same_count (all_yes _ _ (eq-eqb _ _ times_512) (all_yes _ _ (eq-eqb _ _ prices_512) (all_yes _ _ (le-leb _ _ count_512) all_empty)));
-    figures = k.figures s ∙ ap (λ n. figures_of (trades n b.times b.prices)) (sym same_count);
-    good = (clock_of b.kept.stock, rw same_count (all_good (view b).whole no_rubbish));
+    figures = k.figures ∙ ap (λ n. figures_of (trades n b.times b.prices)) (sym same_count);
+    good = λ gone. rest_most (clock_of b.kept.stock) gone _ (rw same_count (all_good (view b).whole no_rubbish));
   }
 
   -- ---------------------------------------------------------------- what is laid out
 
-  laid_out : (rule : Whole → Whole) (step : Step) (totals : Totals) (next : Record) (us qs : List ℕ) → length (rule (view b).whole).window ≤ 512 → Makes rule (view b).whole step
+  laid_out : (rule : Whole → Whole) (step : Effect) (totals : Totals) (next : Record) (us qs : List ℕ) → length (rule (view b).whole).window ≤ 512 → Makes rule (view b).whole step
       → next ≡ record_of step.after.kept step.after.quotes step.count totals → Written step.change b.kept.count b.times b.prices us qs
       → bytes next us qs ≡ lay (record { whole = rule (view b).whole; totals = totals }) b
   laid_out rule step totals next us qs l m e w =
@@ -186,84 +185,157 @@ module _ (r : Record) (ts ps : List ℕ) (p : Kept) (ep : p ≡ kept_of r.stock)
   same_stock : apart ≡ b.kept.stock
   same_stock = rw ep
 
-  module _ (w : Bool) (ew : w ≡ wrong_totals p.course.clock b.kept.totals) (g : Sight) (v : Seen w apart b.kept.count b.times b.prices g) where
-    k : SeenOf b g
-    k = subst (λ s. Seen (wrong_totals (clock_of s) b.kept.totals) s b.kept.count b.times b.prices g) same_stock
-        (subst (λ w. Seen w apart b.kept.count b.times b.prices g) ew v)
+  own_settling : (time : ℕ) (o : Option Sight) → settle_number time o (bare p) ≡ settle_number time o b.kept.stock
+  own_settling time None = refl
+  own_settling time (Some g) = rw ((judge.laws).settling_asks_no_quotes time g.earliest p b.kept.stock.quotes, ep) refl
 
-    abbrev h : Whole
-    h = holding apart g.figures.count b.times b.prices
+  module _ (w : Bool) (ew : w ≡ wrong_totals p.course.clock b.kept.totals) (o : Option Sight) (v : o ≡ seen_of w apart b.kept.count b.times b.prices) where
+    k : SeenOf b o
+    k = subst (λ s. o ≡ seen_of (wrong_totals (clock_of s) b.kept.totals) s b.kept.count b.times b.prices) same_stock
+        (subst (λ w. o ≡ seen_of w apart b.kept.count b.times b.prices) ew v)
 
-    -- the reference of a stock that is sound is in range
-    pub in_range : g.sound ≡ true → IsReference p.reference.price
-    in_range s = rw ep (price_found (view b).whole ((rubbish_is (view b).whole).fails (no_rubbish b g k s)))
+    -- -------------------------------------------------------------- where something was seen
 
-    pub sound_room : g.sound ≡ true → Room p
-    sound_room s = in_room _ (in_range s)
+    module _ (g : Sight) (s : o ≡ Some g) where
+      f : Found b g
+      f = found b g (sym s ∙ k)
 
-    -- the window that the figures count is the one that is held
-    same : (s : g.sound ≡ true) → h ≡ (view b).whole
-    same s = rw (ep, same_count b g k s)
+      abbrev h : Whole
+      h = holding apart g.figures.count b.times b.prices
 
-    -- the totals that a step brings up to date are those of the rules
-    brought_by : (price : ℕ) (s' : Stock) (brought' : Totals) → g.sound ≡ true → brought' ≡ bringing price (bare p) (bare (kept_of s')) b.kept.totals
-        → brought' ≡ brought price b.kept.stock s' b.kept.totals
-    unfolding brought begins_limit begins_pause in_pause
-    brought_by price s' brought' s e =
-        let right : ¬ Wrong (view b) = not_wrong b g k s in
-        e ∙ rw ep ((bringing_is price (bare (kept_of b.kept.stock)) (bare (kept_of s')) b.kept.totals).0 right)
+      -- the reference of the stock is in range
+      pub in_range : IsReference p.reference.price
+      in_range = rw ep (price_found (view b).whole ((rubbish_is (view b).whole).fails (no_rubbish b g f)))
 
-    module _ (m : Message) (n : ℕ) (e : n ≡ message_number m g b.kept.count apart) where
-      own_number : n ≡ message_number m g b.kept.count b.kept.stock
-      own_number = e ∙ ap (message_number m g b.kept.count) same_stock
+      pub sound_room : Room p
+      sound_room = in_room _ in_range
 
-      told_sound : n ≡ 0 → g.sound ≡ true
-      unfolding message_number
-      told_sound z = sound_where_done b g k _ (sym e ∙ z)
+      pub window_held : Held g.figures b.times b.prices
+      window_held = held b g f
 
-      pub message_held : n ≡ 0 → Held g.figures b.times b.prices × Room p
-      message_held z = (held b g k (told_sound z), sound_room (told_sound z))
+      -- the window that the figures count is the one that is held
+      same : h ≡ (view b).whole
+      same = rw (ep, same_count b g f)
 
-      told_zero : n ≡ 0 → counted.tells m (view b) ≡ 0
-      told_zero z = sym (own_number ∙ message_number_is b g k m ∙ simp (in_shape_lem b g k (told_sound z), if_true)) ∙ z
+      -- the totals that a step brings up to date are those of the rules
+      brought_by : (price : ℕ) (s' : Stock) (brought' : Totals) → brought' ≡ bringing price (bare p) (bare (kept_of s')) b.kept.totals
+          → brought' ≡ brought price b.kept.stock s' b.kept.totals
+      unfolding brought begins_limit begins_pause in_pause
+      brought_by price s' brought' e =
+          let right : ¬ Wrong (view b) = not_wrong b g f in
+          e ∙ rw ep ((bringing_is price (bare (kept_of b.kept.stock)) (bare (kept_of s')) b.kept.totals).0 right)
 
-      told_whole : n ≡ 0 → tells m (view b).whole ≡ 0
-      told_whole z = accepted (view b) _ (told_zero z)
+      -- a message that is taken
+      module _ (m : Message) (z : message_number m o b.kept.count apart ≡ 0) where
+        told_zero : counted.tells m (view b) ≡ 0
+        told_zero = sym (ap (message_number m o b.kept.count) same_stock ∙ message_number_is b o k m ∙ simp (in_shape_lem b g f, if_true)) ∙ z
 
-      -- the stock that an accepted message leaves is in range, and so is one that is shown beside a refusal but 1
-      pub told_fits : (step : Step) → n ≡ 0 → Makes (after m) h step → Fits step.after.kept step.after.shown
-      told_fits step z makes =
-          let made : Makes (after m) (view b).whole step = rw (same (told_sound z)) at makes in
-          left_fits _ _ made.after (price_after (view b).whole (message m) (told_whole z, tt))
+        told_whole : tells m (view b).whole ≡ 0
+        told_whole = accepted (view b) _ told_zero
 
+        module _ (step : Effect) (makes : Makes (after m) h step) where
+          made_told : Makes (after m) (view b).whole step
+          made_told = rw same at makes
+
+          -- the stock that it leaves is in range
+          pub told_fits : Fits step.after.kept step.after.shown
+          told_fits = left_fits _ _ made_told.after (price_after (view b).whole (message m) (told_whole, tt))
+
+          pub told_done : (us qs : List ℕ) (a : Answer) (price : ℕ) (brought' : Totals) (next : Record)
+              → Written step.change b.kept.count b.times b.prices us qs → a ≡ answer_by 0 step.after.kept step.after.shown
+              → price ≡ traded_by (message m) → brought' ≡ bringing price (bare p) (bare step.after.kept) b.kept.totals
+              → next ≡ record_of step.after.kept step.after.quotes step.count brought' → Tells m b (record { answer = a; next = next }) us qs
+          unfolding made counted.tell_answer counted.after_telling counted.after
+          told_done us qs a price brought' next writes ea ek et en =
+              let in_shape_lem = in_shape_lem b g f in
+              let done = told_zero in
+              let m' = made_told in
+              let totals : brought' ≡ brought (traded_by (message m)) b.kept.stock (after m (view b).whole).stock b.kept.totals =
+              brought_by (traded_by (message m)) (after m (view b).whole).stock brought' (et ∙ rw (ek, m'.after)) in
+              let out = laid_out b g f (after m) step brought' next us qs (room m (view b).whole told_whole) m' en writes in
+              let all : telling m b ≡ record { answer = answer 0 (after m (view b).whole).stock; bytes = lay (counted.after m (view b)) b } =
+              simp (in_shape_lem, done, eq-eqb 0 0 refl, if_true) in
+              outcome_is _ _ _ _ (answer_is _ _ a m'.after ea) (out ∙ ap (λ t. lay (record { whole = after m (view b).whole; totals = t }) b) totals) ∙ sym all
+
+      -- a moment that is due
+      module _ (time : ℕ) (z : settle_number time o (bare p) ≡ 0) where
+        settled_zero : counted.settles time (view b) ≡ 0
+        settled_zero = sym (own_settling time o ∙ settle_number_is b o k time ∙ simp (in_shape_lem b g f, if_true)) ∙ z
+
+        settled_whole : settles time (view b).whole ≡ 0
+        settled_whole = accepted (view b) _ settled_zero
+
+        -- it is not after the time
+        pub moment_due : Room p × (g.earliest.time ≤ time)
+        unfolding due_by
+        moment_due =
+            let due = (settled time (view b).whole settled_whole).due in
+            (sound_room, rw f.earliest (leb-true _ _ (all_head _ _ (all_tail _ _ due))))
+
+        module _ (step : Effect) (makes : Makes (come g.earliest) h step) where
+          made_settled : Makes (come (next_of (view b).whole)) (view b).whole step
+          made_settled = rw (same, f.earliest) at makes
+
+          -- the stock that it leaves is in range
+          pub settled_fits : Fits step.after.kept step.after.shown
+          unfolding fire
+          settled_fits = left_fits _ _ made_settled.after (price_after (view b).whole (moment (notice (view b).whole)) ((time, settled_whole), refl, tt))
+
+          pub settled_done : (us qs : List ℕ) (a : Answer) (own : ℕ) (brought' : Totals) (next : Record) → own ≡ g.earliest.time
+              → Written step.change b.kept.count b.times b.prices us qs → a ≡ answer_by 0 step.after.kept step.after.shown
+              → brought' ≡ bringing 0 (bare p) (bare step.after.kept) b.kept.totals
+              → next ≡ record_of step.after.kept step.after.quotes step.count brought'
+              → Settles time b (record { answer = record { answer = a; mark = g.earliest.mark; time = own }; next = next }) us qs
+          unfolding made counted.settle_answer counted.fire notice fire come
+          settled_done us qs a own brought' next eo writes ea et en =
+              let in_shape_lem = in_shape_lem b g f in
+              let done = settled_zero in
+              let m' = made_settled in
+              let totals : brought' ≡ brought 0 b.kept.stock (fire (view b).whole).stock b.kept.totals =
+              brought_by 0 (fire (view b).whole).stock brought' (et ∙ rw m'.after) in
+              let out = laid_out b g f (come (next_of (view b).whole)) step brought' next us qs (fired_few (view b).whole (no_rubbish b g f)) m' en writes in
+              let all : settling time b ≡ record { answer = notice (view b).whole; bytes = lay (counted.fire (view b)) b } =
+              simp (in_shape_lem, done, eq-eqb 0 0 refl, if_true) in
+              outcome_is _ _ _ _ (simp (answer_is _ _ a m'.after ea, eo, f.earliest))
+              (out ∙ ap (λ t. lay (record { whole = fire (view b).whole; totals = t }) b) totals) ∙ sym all
+
+      -- reading's number is 0
+      read_0 : counted.reads (view b) ≡ 0
+      unfolding reads read_checks first
+      read_0 = if_right (view b) _ (not_wrong b g f) ∙ simp (no_rubbish b g f, if_false)
+
+      pub read_sound : (a : Answer) → a ≡ answer 0 apart → a ≡ reading b
+      unfolding asked counted.read_answer
+      read_sound a ea = ea ∙ simp (ep, in_shape_lem b g f, read_0, if_true)
+
+      -- the time of what comes next is a number of 32 bits
+      pub time_fits : g.earliest.time < 4_294_967_296
+      time_fits = rw f.earliest (next_fits (view b).whole (no_rubbish b g f))
+
+      pub next_sound : ◌≡◌ {A = Upcoming} (record { number = 0; mark = g.earliest.mark; time = g.earliest.time }) (coming b)
+      unfolding asked counted.next_answer
+      next_sound = simp (in_shape_lem b g f, read_0, f.earliest, eq-eqb 0 0 refl, if_true)
+
+      pub summary_sound : ◌≡◌ {A = Summary} (record { number = 0; totals = b.kept.totals }) (totalling b)
+      unfolding asked counted.totals_answer
+      summary_sound = simp (in_shape_lem b g f, read_0, eq-eqb 0 0 refl, if_true)
+
+    -- -------------------------------------------------------------- a refusal
+
+    -- where another number than 1 is given the reference of the stock is in range
+    module _ (m : Message) (n : ℕ) (e : n ≡ message_number m o b.kept.count apart) where
       pub refused_in_range : ¬ (n ≡ 1) → IsReference p.reference.price
-      unfolding message_number
-      refused_in_range z = in_range (sound_unless_1 b g k _ (λ o. z (e ∙ o)))
-
-      pub told_done : (step : Step) (us qs : List ℕ) (a : Answer) (price : ℕ) (brought' : Totals) (next : Record) → n ≡ 0 → Makes (after m) h step
-          → Written step.change b.kept.count b.times b.prices us qs → a ≡ answer_by 0 step.after.kept step.after.shown
-          → price ≡ traded_by (message m) → brought' ≡ bringing price (bare p) (bare step.after.kept) b.kept.totals
-          → next ≡ record_of step.after.kept step.after.quotes step.count brought' → Tells m b (record { answer = a; next = next }) us qs
-      unfolding telling counted.tell_answer counted.after_telling counted.after
-      told_done step us qs a price brought' next z makes writes ea ek et en =
-          let s = told_sound z in
-          let in_shape_lem = in_shape_lem b g k s in
-          let done = told_zero z in
-          let made : Makes (after m) (view b).whole step = rw (same s) at makes in
-          let totals : brought' ≡ brought (traded_by (message m)) b.kept.stock (after m (view b).whole).stock b.kept.totals =
-          brought_by (traded_by (message m)) (after m (view b).whole).stock brought' s (et ∙ rw (ek, made.after)) in
-          let out = laid_out b g k s (after m) step brought' next us qs (room m (view b).whole (told_whole z)) made en writes in
-          let all : telling m b ≡ record { answer = answer 0 (after m (view b).whole).stock; bytes = lay (counted.after m (view b)) b } =
-          simp (in_shape_lem, done, eq-eqb 0 0 refl, if_true) in
-          outcome_is _ _ _ _ (answer_is _ _ a made.after ea) (out ∙ ap (λ t. lay (record { whole = after m (view b).whole; totals = t }) b) totals) ∙ sym all
+      refused_in_range z =
+          let g = some_unless (λ o. message_number m o b.kept.count apart) o (λ q. z (e ∙ q)) in
+          in_range g.0 g.1
 
       pub told_refused : (a : Answer) → (n ≡ 0 → ⊥) → a ≡ answer n apart
           → Tells m b (record { answer = a; next = b.kept }) b.times b.prices
-      unfolding telling counted.tell_answer counted.after_telling
+      unfolding made counted.tell_answer counted.after_telling
       told_refused a z ea = go (shaped b) refl
         where
           is : n ≡ (if shaped b then counted.tells m (view b) otherwise 1)
-          is = own_number ∙ message_number_is b g k m
+          is = e ∙ ap (message_number m o b.kept.count) same_stock ∙ message_number_is b o k m
 
           go : (x : Bool) → shaped b ≡ x → Tells m b (record { answer = a; next = b.kept }) b.times b.prices
           go true q =
@@ -273,73 +345,22 @@ module _ (r : Record) (ts ps : List ℕ) (p : Kept) (ep : p ≡ kept_of r.stock)
               let n_is : n ≡ 1 = is ∙ simp (q, if_false) in
               simp (q, if_false, ea, n_is, one_zeros)
 
-    module _ (time n : ℕ) (e : n ≡ settle_number time g (bare p)) where
-      own_settling : n ≡ settle_number time g b.kept.stock
-      unfolding settle_number
-      own_settling = e ∙ rw ((judge.laws).settling_asks_no_quotes time g.earliest p b.kept.stock.quotes, ep)
-
-      settled_sound : n ≡ 0 → g.sound ≡ true
-      unfolding settle_number
-      settled_sound z = sound_where_done b g k _ (sym e ∙ z)
-
-      settled_zero : n ≡ 0 → counted.settles time (view b) ≡ 0
-      settled_zero z =
-          let in_shape_lem = in_shape_lem b g k (settled_sound z) in
-          let is : n ≡ counted.settles time (view b) = own_settling ∙ settle_number_is b g k time ∙ simp (in_shape_lem, if_true) in
-          sym is ∙ z
-
-      settled_whole : n ≡ 0 → settles time (view b).whole ≡ 0
-      settled_whole z = accepted (view b) _ (settled_zero z)
-
-      -- the moment that is due is not after the time
-      pub moment_held : n ≡ 0 → Held g.figures b.times b.prices × Room p × (g.earliest.time ≤ time)
-      unfolding due_by
-      moment_held z =
-          let due = (settled time (view b).whole (settled_whole z)).due in
-          (held b g k (settled_sound z), sound_room (settled_sound z), rw (k.earliest (settled_sound z)) (leb-true _ _ (all_head _ _ (all_tail _ _ due))))
-
-      -- the stock that a moment leaves is in range, and so is one that is shown beside a refusal but 1
-      pub settled_fits : (step : Step) → n ≡ 0 → Makes (come g.earliest) h step → Fits step.after.kept step.after.shown
-      unfolding fire
-      settled_fits step z makes =
-          let s = settled_sound z in
-          let made : Makes (come (next_of (view b).whole)) (view b).whole step = rw (same s, k.earliest s) at makes in
-          left_fits _ _ made.after (price_after (view b).whole (moment (notice (view b).whole)) ((time, settled_whole z), refl, tt))
-
+    module _ (time n : ℕ) (e : n ≡ settle_number time o (bare p)) where
       pub unsettled_in_range : ¬ (n ≡ 1) → IsReference p.reference.price
-      unfolding settle_number
-      unsettled_in_range z = in_range (sound_unless_1 b g k _ (λ o. z (e ∙ o)))
-
-      pub settled_done : (step : Step) (us qs : List ℕ) (a : Answer) (own : ℕ) (brought' : Totals) (next : Record) → n ≡ 0 → own ≡ g.earliest.time
-          → Makes (come g.earliest) h step
-          → Written step.change b.kept.count b.times b.prices us qs → a ≡ answer_by 0 step.after.kept step.after.shown
-          → brought' ≡ bringing 0 (bare p) (bare step.after.kept) b.kept.totals
-          → next ≡ record_of step.after.kept step.after.quotes step.count brought'
-          → Settles time b (record { notice = record { answer = a; mark = g.earliest.mark; time = own }; next = next }) us qs
-      unfolding settling counted.settle_answer counted.fire notice fire come
-      settled_done step us qs a own brought' next z eo makes writes ea et en =
-          let s = settled_sound z in
-          let in_shape_lem = in_shape_lem b g k s in
-          let done = settled_zero z in
-          let made : Makes (come (next_of (view b).whole)) (view b).whole step = rw (same s, k.earliest s) at makes in
-          let totals : brought' ≡ brought 0 b.kept.stock (fire (view b).whole).stock b.kept.totals =
-          brought_by 0 (fire (view b).whole).stock brought' s (et ∙ rw made.after) in
-          let out = laid_out b g k s (come (next_of (view b).whole)) step brought' next us qs (fired_few (view b).whole (no_rubbish b g k s)) made en writes in
-          let all : settling time b ≡ record { answer = notice (view b).whole; bytes = lay (counted.fire (view b)) b } =
-          simp (in_shape_lem, done, eq-eqb 0 0 refl, if_true) in
-          outcome_is _ _ _ _ (simp (answer_is _ _ a made.after ea, eo, k.earliest s))
-          (out ∙ ap (λ t. lay (record { whole = fire (view b).whole; totals = t }) b) totals) ∙ sym all
+      unsettled_in_range z =
+          let g = some_unless (λ o. settle_number time o (bare p)) o (λ q. z (e ∙ q)) in
+          in_range g.0 g.1
 
       pub settled_refused : (a : Answer) (given : Notice) → (n ≡ 0 → ⊥) → a ≡ answer n apart → given ≡ beside no_moment a
-          → Settles time b (record { notice = given; next = b.kept }) b.times b.prices
-      unfolding settling counted.settle_answer
+          → Settles time b (record { answer = given; next = b.kept }) b.times b.prices
+      unfolding made counted.settle_answer
       settled_refused a given z ea eg = go (shaped b) refl
         where
           is : n ≡ (if shaped b then counted.settles time (view b) otherwise 1)
-          is = own_settling ∙ settle_number_is b g k time
+          is = e ∙ own_settling time o ∙ settle_number_is b o k time
 
           go : (x : Bool) → shaped b ≡ x
-              → Settles time b (record { notice = given; next = b.kept }) b.times b.prices
+              → Settles time b (record { answer = given; next = b.kept }) b.times b.prices
           go true q =
               let n_is : counted.settles time (view b) ≡ n = sym (is ∙ simp (q, if_true)) in
               simp (q, if_true, n_is, ne_eqb n 0 z, if_false, eg, ea, ep)
@@ -347,54 +368,30 @@ module _ (r : Record) (ts ps : List ℕ) (p : Kept) (ep : p ≡ kept_of r.stock)
               let n_is : n ≡ 1 = is ∙ simp (q, if_false) in
               simp (q, if_false, eg, ea, n_is, one_zeros)
 
-    -- -------------------------------------------------------------- a reading
+    -- -------------------------------------------------------------- where nothing was seen
 
-    -- where it is sound, reading's number is 0
-    read_0 : g.sound ≡ true → counted.reads (view b) ≡ 0
-    unfolding reads read_checks first
-    read_0 s = if_right (view b) _ (not_wrong b g k s) ∙ simp (no_rubbish b g k s, if_false)
+    module _ (s : o ≡ None) where
+      -- the parts are of another length or reading's number is 1
+      unsound : {A : Type 0} (x y : A) → (shaped b ≡ false → x ≡ y) → (shaped b ≡ true → counted.reads (view b) ≡ 1 → x ≡ y) → x ≡ y
+      unfolding reads read_checks first
+      unsound x y odd bad = go (shaped b) refl (rubbish (view b).whole) refl (wrong_or_not (view b))
+        where
+          go : (c : Bool) → shaped b ≡ c → (d : Bool) → rubbish (view b).whole ≡ d → Wrong (view b) ⊎ (¬ Wrong (view b)) → x ≡ y
+          go false e d q w = odd e
+          go true e d q (inl w) = bad e (if_wrong (view b) _ w)
+          go true e true q (inr r) = bad e (if_right (view b) _ r ∙ simp (q, if_true))
+          go true e false q (inr r) =
+              let right : wrong (view b) ≡ false = is_false _ (wrong_is _ b.kept.totals) r in
+              absurd (true≢false (sym (all_yes _ _ e (all_yes _ _ (ap not q) (all_yes _ _ (ap not right) all_empty))) ∙ missed b (sym s ∙ k)))
 
-    -- where it is not sound, the parts are of another length or reading's number is 1
-    unsound : {A : Type 0} (x y : A) → g.sound ≡ false → (shaped b ≡ false → x ≡ y) → (shaped b ≡ true → counted.reads (view b) ≡ 1 → x ≡ y) → x ≡ y
-    unfolding reads read_checks first
-    unsound x y s odd bad = go (shaped b) refl (rubbish (view b).whole) refl (wrong_or_not (view b))
-      where
-        go : (c : Bool) → shaped b ≡ c → (d : Bool) → rubbish (view b).whole ≡ d → Wrong (view b) ⊎ (¬ Wrong (view b)) → x ≡ y
-        go false e d q w = odd e
-        go true e d q (inl w) = bad e (if_wrong (view b) _ w)
-        go true e true q (inr r) = bad e (if_right (view b) _ r ∙ simp (q, if_true))
-        go true e false q (inr r) =
-            let right : wrong (view b) ≡ false = is_false _ (wrong_is _ b.kept.totals) r in
-            absurd (true≢false (sym (all_yes _ _ e (all_yes _ _ (ap not q) (all_yes _ _ (ap not right) all_empty))) ∙ sym k.sound ∙ s))
+      pub read_unsound : (a : Answer) → a ≡ zeros 1 → a ≡ reading b
+      unfolding asked counted.read_answer
+      read_unsound a ea = unsound a (reading b) (λ e. ea ∙ simp (e, if_false)) (λ e q. ea ∙ simp (e, q, if_true, one_zeros))
 
-    pub read_sound : (a : Answer) → g.sound ≡ true → a ≡ answer 0 apart → a ≡ reading b
-    unfolding reading counted.read_answer
-    read_sound a s ea = ea ∙ simp (ep, in_shape_lem b g k s, read_0 s, if_true)
+      pub next_unsound : (u : Upcoming) → u ≡ none_coming 1 → u ≡ coming b
+      unfolding asked counted.next_answer
+      next_unsound u eu = unsound u (coming b) (λ e. eu ∙ simp (e, if_false)) (λ e q. eu ∙ simp (e, q, if_true, ne_eqb 1 0 (λ z. omega arith), if_false))
 
-    pub read_unsound : (a : Answer) → g.sound ≡ false → a ≡ zeros 1 → a ≡ reading b
-    unfolding reading counted.read_answer
-    read_unsound a s ea = unsound a (reading b) s (λ e. ea ∙ simp (e, if_false)) (λ e q. ea ∙ simp (e, q, if_true, one_zeros))
-
-    -- -------------------------------------------------------------- what comes next
-
-    -- its time is a number of 32 bits
-    pub time_fits : g.sound ≡ true → g.earliest.time < 4_294_967_296
-    time_fits s = rw (k.earliest s) (next_fits (view b).whole (no_rubbish b g k s))
-
-    pub next_sound : g.sound ≡ true → ◌≡◌ {A = Upcoming} (record { number = 0; mark = g.earliest.mark; time = g.earliest.time }) (coming b)
-    unfolding coming counted.next_answer
-    next_sound s = simp (in_shape_lem b g k s, read_0 s, k.earliest s, eq-eqb 0 0 refl, if_true)
-
-    pub next_unsound : (u : Upcoming) → g.sound ≡ false → u ≡ none_coming 1 → u ≡ coming b
-    unfolding coming counted.next_answer
-    next_unsound u s eu = unsound u (coming b) s (λ e. eu ∙ simp (e, if_false)) (λ e q. eu ∙ simp (e, q, if_true, ne_eqb 1 0 (λ z. omega arith), if_false))
-
-    -- -------------------------------------------------------------- the day totals
-
-    pub summary_sound : g.sound ≡ true → ◌≡◌ {A = Summary} (record { number = 0; totals = b.kept.totals }) (totalling b)
-    unfolding totalling counted.totals_answer
-    summary_sound s = simp (in_shape_lem b g k s, read_0 s, eq-eqb 0 0 refl, if_true)
-
-    pub summary_unsound : (x : Summary) → g.sound ≡ false → x ≡ no_summary 1 → x ≡ totalling b
-    unfolding totalling counted.totals_answer
-    summary_unsound x s ex = unsound x (totalling b) s (λ e. ex ∙ simp (e, if_false)) (λ e q. ex ∙ simp (e, q, if_true, ne_eqb 1 0 (λ z. omega arith), if_false))
+      pub summary_unsound : (x : Summary) → x ≡ no_summary 1 → x ≡ totalling b
+      unfolding asked counted.totals_answer
+      summary_unsound x ex = unsound x (totalling b) (λ e. ex ∙ simp (e, if_false)) (λ e q. ex ∙ simp (e, q, if_true, ne_eqb 1 0 (λ z. omega arith), if_false))

@@ -27,12 +27,13 @@ use Rattle.window.specs.Places.{trades, whole, gone_of, changed, rest_of}
 use Rattle.window.specs.declared.Change.{Change}
 use Rattle.window.specs.declared.Change.TheVariants.{Stay, Join, Leave, Empty, Start}
 use Rattle.window.proofs.Laws as window
-use Rattle.window.proofs.Window.{length_trades, figures_snoc, total_most, rest_most}
+use Rattle.window.proofs.Window.{length_trades, figures_snoc}
 use Rattle.states.specs.After.{fit, effect_of, after_of}
 use Rattle.states.specs.declared.After.{After}
 use Rattle.states.proofs.Laws as states
 use Rattle.stock.specs.View.{holding}
-use Rattle.stock.specs.Steps.{change_of, change_at, Held, with_trade, Changed, Makes}
+use Rattle.stock.specs.Window.{Held}
+use Rattle.stock.specs.Steps.{change_of, change_at, with_trade, Changed, Makes}
 
 -- ------------------------------------------------------------------ the window once it is changed
 
@@ -63,19 +64,20 @@ module _ (mark time count : ℕ) (ts : List ℕ) where
   unfolding change_at
   change_v gone v e = simp (eq-eqb _ _ v, if_true, e)
 
-  module _ (v : mark ≡ 118 → ⊥) where
-    pub change_z : mark ≡ 122 → Empty ≡ change_at mark time count ts
-    unfolding change_at any_of
-    change_z z = simp (ne_eqb _ _ v, eq-eqb _ _ z, if_true, if_false)
+  pub change_z : mark ≡ 122 → Empty ≡ change_at mark time count ts
+  unfolding change_at any_of
+  change_z z = let v : mark ≡ 118 → ⊥ = λ v. omega arith in simp (ne_eqb _ _ v, eq-eqb _ _ z, if_true, if_false)
 
-    module _ (z : mark ≡ 122 → ⊥) where
-      pub change_c : mark ≡ 99 → Empty ≡ change_at mark time count ts
-      unfolding change_at any_of
-      change_c c = simp (ne_eqb _ _ v, ne_eqb _ _ z, eq-eqb _ _ c, if_true, if_false)
+  pub change_c : mark ≡ 99 → Empty ≡ change_at mark time count ts
+  unfolding change_at any_of
+  change_c c =
+      let v : mark ≡ 118 → ⊥ = λ v. omega arith in
+      let z : mark ≡ 122 → ⊥ = λ z. omega arith in
+      simp (ne_eqb _ _ v, ne_eqb _ _ z, eq-eqb _ _ c, if_true, if_false)
 
-      pub change_none : (mark ≡ 99 → ⊥) → Stay ≡ change_at mark time count ts
-      unfolding change_at any_of
-      change_none c = simp (ne_eqb _ _ v, ne_eqb _ _ z, ne_eqb _ _ c, if_false)
+  pub change_none : (mark ≡ 118 → ⊥) → (mark ≡ 122 → ⊥) → (mark ≡ 99 → ⊥) → Stay ≡ change_at mark time count ts
+  unfolding change_at any_of
+  change_none v z c = simp (ne_eqb _ _ v, ne_eqb _ _ z, ne_eqb _ _ c, if_false)
 
 -- ------------------------------------------------------------------ its figures
 
@@ -98,7 +100,7 @@ module _ (f : Figures) (ts ps : List ℕ) (k : Held f ts ps) where
   of_times = eqb-true _ _ (all_head _ _ k.places)
 
   pub can_join : (f.count ≤ 512) × (f.sum ≤ 999_999_999 * f.count)
-  can_join = (of_count, omega (arith, of_sum, total_most _ (trades f.count ts ps) k.good.1, length_trades f.count ts ps))
+  can_join = (of_count, omega (arith, of_sum, k.good 0, length_trades f.count ts ps))
 
   module _ (change : Change) where
     pub stayed : change ≡ Stay → Changed change f.count ts ps f
@@ -121,11 +123,11 @@ module _ (f : Figures) (ts ps : List ℕ) (k : Held f ts ps) where
         let few = of_count in
         let counted = length_trades f.count ts ps in
         let dropped = length-drop gone w in
-        record { figures = rw q is; small = rw is (omega (arith, rest_most _ gone w k.good.1), omega arith) }
+        record { figures = rw q is; small = rw is (omega (arith, k.good gone), omega arith) }
 
-    pub emptied : change ≡ Empty → Changed change f.count ts ps (record { count = 0; oldest = 0; sum = 0 })
+    pub emptied : (r : Figures) → change ≡ Empty → r.count ≡ 0 → r.oldest ≡ 0 → r.sum ≡ 0 → Changed change f.count ts ps r
     unfolding changed figures_of total oldest
-    emptied q = record { figures = rw q; small = (omega arith, omega arith) }
+    emptied r q c o t = record { figures = rw q (λ x. record { count = c x; oldest = o x; sum = t x }); small = (omega arith, omega arith) }
 
     pub started : (time price : ℕ) → change ≡ Start time price → price < 4_294_967_296
         → Changed change f.count ts ps (record { count = 1; oldest = time; sum = price })

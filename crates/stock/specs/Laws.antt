@@ -12,10 +12,9 @@ use Rattle.rules.specs.declared.Message.{Message}
 use Rattle.rules.specs.declared.Notice.{Notice}
 use Rattle.rules.specs.declared.Summary.{Summary}
 use Rattle.rules.specs.declared.Upcoming.{Upcoming}
-use Rattle.stock.specs.View.{Bytes, bytes, view, lay, shaped, Tells, Settles, reading, coming, totalling}
+use Rattle.stock.specs.View.{Bytes, bytes, view, lay, shaped, Outcome, Leaves, Tells, Settles, answer_number, notice_number, reading, coming, totalling}
+use Rattle.stock.specs.declared.Handed.{Handed}
 use Rattle.stock.specs.declared.Record.{Record}
-use Rattle.stock.specs.declared.Told.{Told}
-use Rattle.stock.specs.declared.Settled.{Settled}
 
 -- what a method hands back, with both parts as it leaves them
 pub record Left (R : Type 0) : Type 0 where
@@ -48,20 +47,20 @@ ReadBack = (h : Counted) (b : Bytes) → view (lay h b) ≡ h
 
 -- with parts of 512 places the answer is the rules', and the new bytes mean what the rules make of the stock that the old bytes meant
 abbrev pub ToldByTheRules : Type 0
-ToldByTheRules = (m : Message) (b : Bytes) (r : Told) (times prices : List ℕ) → Tells m b r times prices → shaped b ≡ true
+ToldByTheRules = (m : Message) (b : Bytes) (r : Handed Answer) (times prices : List ℕ) → Tells m b r times prices → shaped b ≡ true
     → (r.answer ≡ tell_answer m (view b)) × (view (bytes r.next times prices) ≡ after_telling m (view b))
 
 abbrev pub SettledByTheRules : Type 0
-SettledByTheRules = (time : ℕ) (b : Bytes) (r : Settled) (times prices : List ℕ) → Settles time b r times prices → shaped b ≡ true
-    → (r.notice ≡ settle_answer time (view b)) × (view (bytes r.next times prices) ≡ after_settling time (view b))
+SettledByTheRules = (time : ℕ) (b : Bytes) (r : Handed Notice) (times prices : List ℕ) → Settles time b r times prices → shaped b ≡ true
+    → (r.answer ≡ settle_answer time (view b)) × (view (bytes r.next times prices) ≡ after_settling time (view b))
 
 -- with other parts the answer is 1 with zeros
 abbrev pub ToldOne : Type 0
-ToldOne = (m : Message) (b : Bytes) (r : Told) (times prices : List ℕ) → Tells m b r times prices → shaped b ≡ false → r.answer ≡ zeros 1
+ToldOne = (m : Message) (b : Bytes) (r : Handed Answer) (times prices : List ℕ) → Tells m b r times prices → shaped b ≡ false → r.answer ≡ zeros 1
 
 abbrev pub SettledOne : Type 0
-SettledOne = (time : ℕ) (b : Bytes) (r : Settled) (times prices : List ℕ) → Settles time b r times prices → shaped b ≡ false
-    → r.notice ≡ no_notice 1
+SettledOne = (time : ℕ) (b : Bytes) (r : Handed Notice) (times prices : List ℕ) → Settles time b r times prices → shaped b ≡ false
+    → r.answer ≡ no_notice 1
 
 -- reading gives the rules' answer with parts of 512 places, and 1 with zeros with other parts
 abbrev pub ReadByTheRules : Type 0
@@ -77,20 +76,20 @@ TotalsByTheRules = (b : Bytes) → (shaped b ≡ true → totalling b ≡ totals
 
 -- a call that is not answered 0 changes no byte
 abbrev pub ToldRefused : Type 0
-ToldRefused = (m : Message) (b : Bytes) (r : Told) (times prices : List ℕ) → Tells m b r times prices → ¬ (r.answer.number ≡ 0)
+ToldRefused = (m : Message) (b : Bytes) (r : Handed Answer) (times prices : List ℕ) → Tells m b r times prices → ¬ (r.answer.number ≡ 0)
     → bytes r.next times prices ≡ b
 
 abbrev pub SettledRefused : Type 0
-SettledRefused = (time : ℕ) (b : Bytes) (r : Settled) (times prices : List ℕ) → Settles time b r times prices
-    → ¬ (r.notice.answer.number ≡ 0) → bytes r.next times prices ≡ b
+SettledRefused = (time : ℕ) (b : Bytes) (r : Handed Notice) (times prices : List ℕ) → Settles time b r times prices
+    → ¬ (r.answer.answer.number ≡ 0) → bytes r.next times prices ≡ b
 
 -- no call changes how many places the parts have
 abbrev pub ToldInShape : Type 0
-ToldInShape = (m : Message) (b : Bytes) (r : Told) (times prices : List ℕ) → Tells m b r times prices
+ToldInShape = (m : Message) (b : Bytes) (r : Handed Answer) (times prices : List ℕ) → Tells m b r times prices
     → shaped (bytes r.next times prices) ≡ shaped b
 
 abbrev pub SettledInShape : Type 0
-SettledInShape = (time : ℕ) (b : Bytes) (r : Settled) (times prices : List ℕ) → Settles time b r times prices
+SettledInShape = (time : ℕ) (b : Bytes) (r : Handed Notice) (times prices : List ℕ) → Settles time b r times prices
     → shaped (bytes r.next times prices) ≡ shaped b
 
 -- behind the trades that a call leaves, a place that was used before is 0, and any other place is as it was
@@ -98,14 +97,14 @@ abbrev pub Unwritten : (used held : ℕ) (before after : List ℕ) → Type 0
 Unwritten used held before after = (j : ℕ) → held ≤ j → (j < used → get_or after j 0 ≡ 0) × (used ≤ j → get_or after j 0 ≡ get_or before j 0)
 
 abbrev pub ToldUnused : Type 0
-ToldUnused = (m : Message) (b : Bytes) (r : Told) (times prices : List ℕ) → Tells m b r times prices
+ToldUnused = (m : Message) (b : Bytes) (r : Handed Answer) (times prices : List ℕ) → Tells m b r times prices
     → Unwritten b.kept.count r.next.count b.times times × Unwritten b.kept.count r.next.count b.prices prices
 
 abbrev pub SettledUnused : Type 0
-SettledUnused = (time : ℕ) (b : Bytes) (r : Settled) (times prices : List ℕ) → Settles time b r times prices
+SettledUnused = (time : ℕ) (b : Bytes) (r : Handed Notice) (times prices : List ℕ) → Settles time b r times prices
     → Unwritten b.kept.count r.next.count b.times times × Unwritten b.kept.count r.next.count b.prices prices
 
-pub record Laws : Type 0 where
+pub record Laws : Type 1 where
   pub bytes_are : BytesAre
   pub shaped_is : ShapedIs
   pub view_is : ViewIs
@@ -129,8 +128,11 @@ pub record Laws : Type 0 where
   pub zero_notice_determined : (number : ℕ) → Determines (λ (x : Notice). x ≡ no_notice number)
   pub none_coming_determined : (number : ℕ) → Determines (λ (x : Upcoming). x ≡ none_coming number)
   pub no_summary_determined : (number : ℕ) → Determines (λ (x : Summary). x ≡ no_summary number)
-  pub tell_determined : (m : Message) (b : Bytes) → Determines (λ (x : Left Told). Tells m b x.result x.times x.prices)
-  pub settle_determined : (time : ℕ) (b : Bytes) → Determines (λ (x : Left Settled). Settles time b x.result x.times x.prices)
+  pub step_determined : {A : Type 0} → (o : Outcome A) → Determines (λ (x : Left (Handed A)). Leaves o x.result x.times x.prices)
+  pub tell_determined : (m : Message) (b : Bytes) → Determines (λ (x : Left (Handed Answer)). Tells m b x.result x.times x.prices)
+  pub settle_determined : (time : ℕ) (b : Bytes) → Determines (λ (x : Left (Handed Notice)). Settles time b x.result x.times x.prices)
   pub read_determined : (b : Bytes) → Determines (λ (r : Answer). r ≡ reading b)
   pub next_determined : (b : Bytes) → Determines (λ (r : Upcoming). r ≡ coming b)
   pub summary_determined : (b : Bytes) → Determines (λ (r : Summary). r ≡ totalling b)
+  pub number_determined : (a : Answer) → Determines (λ (n : ℕ). n ≡ answer_number a)
+  pub notice_number_determined : (a : Notice) → Determines (λ (n : ℕ). n ≡ notice_number a)

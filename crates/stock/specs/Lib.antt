@@ -1,3 +1,4 @@
 pub mod View
 pub mod Steps
 pub mod Laws
+pub mod Window

@@ -12,9 +12,8 @@ use Rattle.rules.specs.declared.Stock.{Stock}
 use Rattle.rules.specs.declared.Summary.{Summary}
 use Rattle.rules.specs.declared.Upcoming.{Upcoming}
 use Rattle.window.specs.Places.{trades, laid}
+use Rattle.stock.specs.declared.Handed.{Handed}
 use Rattle.stock.specs.declared.Record.{Record}
-use Rattle.stock.specs.declared.Told.{Told}
-use Rattle.stock.specs.declared.Settled.{Settled}
 
 -- ------------------------------------------------------------------ the bytes of a stock, and what they mean
 
@@ -58,38 +57,66 @@ pub record Outcome (A : Type 0) : Type 0 where
   pub answer : A
   pub bytes : Bytes
 
--- telling a message: parts without 512 places get 1; an accepted message leaves the layout of the stock that the rules make, a refusal leaves
--- every byte
-unfoldable pub telling : Message → Bytes → Outcome Answer
-telling m b =
-    if shaped b then record { answer = tell_answer m (view b); bytes = if eqb (tells m (view b)) 0 then lay (after m (view b)) b otherwise b }
-    otherwise record { answer = zeros 1; bytes = b }
+-- a rule for a call: of each stock the number, the answer, and the stock that is left where the number is 0
+pub record Ruling (A : Type 0) : Type 0 where
+  pub number : Counted → ℕ
+  pub answer : Counted → A
+  pub next : Counted → Counted
 
--- settling to a time: parts without 512 places get 1; a moment that is done leaves the layout of the stock that the rules make, a refusal leaves
--- every byte
-unfoldable pub settling : ℕ → Bytes → Outcome Notice
-settling time b =
-    if shaped b then record { answer = settle_answer time (view b); bytes = if eqb (settles time (view b)) 0 then lay (fire (view b)) b otherwise b }
-    otherwise record { answer = no_notice 1; bytes = b }
+-- a call by a rule: parts without 512 places get 1; where the number is 0 the layout of the stock that the rule leaves is left, else every byte
+unfoldable pub made : {A : Type 0} → Ruling A → (ℕ → A) → Bytes → Outcome A
+made rule beside b =
+    if shaped b then record { answer = rule.answer (view b); bytes = if eqb (rule.number (view b)) 0 then lay (rule.next (view b)) b otherwise b }
+    otherwise record { answer = beside 1; bytes = b }
 
--- the promise of telling: the answer, the next record and all places at exit are that outcome
-abbrev pub Tells : Message → Bytes → Told → List ℕ → List ℕ → Type 0
-Tells m b r times prices = ◌≡◌ {A = Outcome Answer} (record { answer = r.answer; bytes = bytes r.next times prices }) (telling m b)
+-- the rule for a message, and for settling to a time
+abbrev pub told_by : Message → Ruling Answer
+told_by m = record { number = tells m; answer = tell_answer m; next = after m }
+
+abbrev pub settled_by : ℕ → Ruling Notice
+settled_by time = record { number = settles time; answer = settle_answer time; next = fire }
+
+-- telling a message
+abbrev pub telling : Message → Bytes → Outcome Answer
+telling m = made (told_by m) zeros
+
+-- settling to a time
+abbrev pub settling : ℕ → Bytes → Outcome Notice
+settling time = made (settled_by time) no_notice
+
+-- the promise of a step with that outcome: the answer, the next record and all places at exit are the outcome's
+abbrev pub Leaves : {A : Type 0} → Outcome A → Handed A → List ℕ → List ℕ → Type 0
+Leaves {A} o r times prices = ◌≡◌ {A = Outcome A} (record { answer = r.answer; bytes = bytes r.next times prices }) o
+
+-- the promise of telling
+abbrev pub Tells : Message → Bytes → Handed Answer → List ℕ → List ℕ → Type 0
+Tells m b = Leaves (telling m b)
 
 -- the promise of settling
-abbrev pub Settles : ℕ → Bytes → Settled → List ℕ → List ℕ → Type 0
-Settles time b r times prices = ◌≡◌ {A = Outcome Notice} (record { answer = r.notice; bytes = bytes r.next times prices }) (settling time b)
+abbrev pub Settles : ℕ → Bytes → Handed Notice → List ℕ → List ℕ → Type 0
+Settles time b = Leaves (settling time b)
+
+-- the number of an answer, and of a notice
+abbrev pub answer_number : Answer → ℕ
+answer_number a = a.number
+
+abbrev pub notice_number : Notice → ℕ
+notice_number n = n.answer.number
 
 -- ------------------------------------------------------------------ what reading gives
 
--- reading: parts without 512 places get 1, others get the rules' answer
-unfoldable pub reading : Bytes → Answer
-reading b = if shaped b then read_answer (view b) otherwise zeros 1
+-- a call that changes nothing: parts without 512 places get 1, others get the rules' answer
+unfoldable pub asked : {A : Type 0} → (Counted → A) → (ℕ → A) → Bytes → A
+asked own beside b = if shaped b then own (view b) otherwise beside 1
 
--- asking what comes next: parts without 512 places get 1 with no moment, others get the rules' answer
-unfoldable pub coming : Bytes → Upcoming
-coming b = if shaped b then next_answer (view b) otherwise none_coming 1
+-- reading
+abbrev pub reading : Bytes → Answer
+reading = asked read_answer zeros
 
--- asking for the day totals: parts without 512 places get 1 with every total 0, others get the rules' answer
-unfoldable pub totalling : Bytes → Summary
-totalling b = if shaped b then totals_answer (view b) otherwise no_summary 1
+-- asking what comes next
+abbrev pub coming : Bytes → Upcoming
+coming = asked next_answer none_coming
+
+-- asking for the day totals
+abbrev pub totalling : Bytes → Summary
+totalling = asked totals_answer no_summary

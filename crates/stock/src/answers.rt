@@ -6,6 +6,7 @@ ghost use Rattle.rules.specs.Words.{IsReference};
 ghost use Rattle.quotes.specs.Parts.{stock_of};
 ghost use Rattle.stock.specs.Steps.{Fits, answer_by};
 
+use crate::Reply;
 use quotes::{Kept, Shown};
 use rules::{Answer, BAD_SETUP, Best, MARK_NONE, NO_STOCK, Notice, Quotes, RUBBISH, Side};
 
@@ -40,7 +41,7 @@ pub(crate) fn answer_of(number: u32, k: Kept, q: Quotes) -> Answer
     ensures { result ≡ answer number (stock_of k q) }
 {
     if (number == RUBBISH) | (number == BAD_SETUP) | (number == NO_STOCK) {
-        return crate::zeros(number);
+        return Answer::beside(number);
     }
     let basis = quotes::basis_of(k);
     // named behind the test: before it, the compiler would copy the quotes on every path

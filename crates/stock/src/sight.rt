@@ -1,20 +1,21 @@
-// The first look of every call at its stock and the held trades, and the number that refuses the call.
-ghost use Rattle.std.specs.Prelude.{◌≡◌, true};
+// The first look of every call at its stock and the held trades, and the refusal of the call.
+ghost use Rattle.std.specs.Prelude.{◌≡◌, Some};
 ghost use Rattle.quotes.specs.Parts.{stock_of, bare, Room};
-ghost use Rattle.stock.specs.Steps.{Seen, message_number, settle_number};
+ghost use Rattle.stock.specs.Steps.{seen_of, message_number, settle_number, Goes};
+ghost use Rattle.stock.specs.declared.sight.Sight.{Sight};
 
 use quotes::Kept;
-use rules::{Figures, Message, Moment, Quotes, RUBBISH};
+use rules::{Figures, Message, Moment, Quotes, Refusal};
 
-// What a call has found of its stock; figures and moment are valid only where the stock is sound.
+// What a call has found of its stock.
 #[derive(Clone, Copy)]
 pub struct Sight {
-    pub sound: bool,
     pub figures: Figures,
     pub earliest: Moment,
 }
 
-// Judges a stock with its places; whether its totals are wrong is given.
+// Judges a stock with its places; whether its totals are wrong is given as a bool, as totals::is_wrong says it, so that
+// no totals are copied for it.
 pub(crate) fn see(
     wrong: bool,
     count: u64,
@@ -22,37 +23,42 @@ pub(crate) fn see(
     q: Quotes,
     times: &[u32],
     prices: &[u32],
-) -> Sight
-    ensures { Seen wrong (stock_of k q) count times.now prices.now result }
+) -> Option<Sight>
+    ensures { result ≡ seen_of wrong (stock_of k q) count times.now prices.now }
 {
-    let survey = window::survey(k.course.clock, count, times, prices);
-    let figures = survey.figures;
+    let figures = window::survey(k.course.clock, count, times, prices)?;
     let verdict = judge::judged(figures, k, q);
-    let earliest = verdict.earliest;
-    Sight {
-        sound: survey.sound & !verdict.rubbish & !wrong,
+    if verdict.rubbish | wrong {
+        return None;
+    }
+    Some(Sight {
         figures,
-        earliest,
-    }
+        earliest: verdict.earliest,
+    })
 }
 
-// The number that a message is answered with.
-pub(crate) fn message_number(m: Message, seen: Sight, count: u64, k: Kept, q: Quotes) -> u32
-    requires { seen.sound ≡ true → Room k }
-    ensures { result ≡ message_number m seen count (stock_of k q) }
+// What was seen, where the message is taken. `Room k` is no type's ghost field, here and in steps.rt: this function has
+// `k` also where nothing was seen, and then nothing says that there is room.
+pub(crate) fn taking(
+    m: Message,
+    seen: Option<Sight>,
+    count: u64,
+    k: Kept,
+    q: Quotes,
+) -> Result<Sight, Refusal>
+    requires { (g : Sight) → seen ≡ Some g → Room k }
+    ensures { Goes seen (message_number m seen count (stock_of k q)) result }
 {
-    if seen.sound {
-        return judge::message_refusal(m, count, seen.earliest, k, q);
-    }
-    RUBBISH
+    let sight = seen.ok_or(Refusal::Rubbish)?;
+    judge::message_refusal(m, count, sight.earliest, k, q)?;
+    Ok(sight)
 }
 
-// The number that settling to a time is answered with.
-pub(crate) fn settle_number(time: u32, seen: Sight, k: Kept) -> u32
-    ensures { result ≡ settle_number time seen (bare k) }
+// What was seen, where a moment is due by the time.
+pub(crate) fn settling(time: u32, seen: Option<Sight>, k: Kept) -> Result<Sight, Refusal>
+    ensures { Goes seen (settle_number time seen (bare k)) result }
 {
-    if seen.sound {
-        return judge::settle_refusal(time, seen.earliest, k);
-    }
-    RUBBISH
+    let sight = seen.ok_or(Refusal::Rubbish)?;
+    judge::settle_refusal(time, sight.earliest, k)?;
+    Ok(sight)
 }

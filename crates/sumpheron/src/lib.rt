@@ -10,7 +10,7 @@ ghost use Rattle.book.specs.Setup.{SetsUp};
 ghost use Rattle.sumpheron.specs.Version.{version};
 
 use rules::{Answer, Notice, Summary, Upcoming};
-use stock::Record;
+use stock::{Record, Until};
 
 // The version of these functions, of the structs that they take and return, and of the numbers in them.
 #[unsafe(no_mangle)]
@@ -46,7 +46,7 @@ pub extern "C" fn sumpheron_settle(
 ) -> Notice
     ensures { SettlesIn stock time (lent book.old times.old prices.old) result (lent book.new times.new prices.new) }
 {
-    book::settle(book, times, prices, stock, time)
+    book::step(book, times, prices, stock, Until(time))
 }
 
 // Reads a stock, and changes nothing.
@@ -59,7 +59,7 @@ pub extern "C" fn sumpheron_read(
 ) -> Answer
     ensures { result ≡ reading_in stock (lent book.now times.now prices.now) }
 {
-    book::read(book, times, prices, stock)
+    book::ask::<Answer>(book, times, prices, stock)
 }
 
 // Gives a stock's earliest moment still to come, and changes nothing.
@@ -72,7 +72,7 @@ pub extern "C" fn sumpheron_next(
 ) -> Upcoming
     ensures { result ≡ coming_in stock (lent book.now times.now prices.now) }
 {
-    book::next(book, times, prices, stock)
+    book::ask::<Upcoming>(book, times, prices, stock)
 }
 
 // Gives a stock's day totals, and changes nothing.
@@ -85,7 +85,7 @@ pub extern "C" fn sumpheron_totals(
 ) -> Summary
     ensures { result ≡ totalling_in stock (lent book.now times.now prices.now) }
 {
-    book::totals(book, times, prices, stock)
+    book::ask::<Summary>(book, times, prices, stock)
 }
 
 // T: an eligible trade.
@@ -101,7 +101,7 @@ pub extern "C" fn sumpheron_trade(
     ensures { TellsIn stock (Trade time price) (lent book.old times.old prices.old) result (lent book.new times.new prices.new) }
 {
     let message = letters::trade(time, price);
-    book::tell(book, times, prices, stock, message)
+    book::step(book, times, prices, stock, message)
 }
 
 // Q: a participant's bid and offer; 0 means absent.
@@ -119,7 +119,7 @@ pub extern "C" fn sumpheron_quote(
     ensures { TellsIn stock (Quote time participant bid offer) (lent book.old times.old prices.old) result (lent book.new times.new prices.new) }
 {
     let message = letters::quote(time, participant, bid, offer);
-    book::tell(book, times, prices, stock, message)
+    book::step(book, times, prices, stock, message)
 }
 
 // O: the primary's opening price.
@@ -136,7 +136,7 @@ pub extern "C" fn sumpheron_opening(
     ensures { TellsIn stock (Opening time participant price) (lent book.old times.old prices.old) result (lent book.new times.new prices.new) }
 {
     let message = letters::opening(time, participant, price);
-    book::tell(book, times, prices, stock, message)
+    book::step(book, times, prices, stock, message)
 }
 
 // P: the primary declares a pause.
@@ -152,7 +152,7 @@ pub extern "C" fn sumpheron_pause(
     ensures { TellsIn stock (Pause time participant) (lent book.old times.old prices.old) result (lent book.new times.new prices.new) }
 {
     let message = letters::pause(time, participant);
-    book::tell(book, times, prices, stock, message)
+    book::step(book, times, prices, stock, message)
 }
 
 // R: the primary's reopening price.
@@ -169,7 +169,7 @@ pub extern "C" fn sumpheron_reopening(
     ensures { TellsIn stock (Reopening time participant price) (lent book.old times.old prices.old) result (lent book.new times.new prices.new) }
 {
     let message = letters::reopening(time, participant, price);
-    book::tell(book, times, prices, stock, message)
+    book::step(book, times, prices, stock, message)
 }
 
 // X: the primary's closing.
@@ -186,5 +186,5 @@ pub extern "C" fn sumpheron_closing(
     ensures { TellsIn stock (Closing time participant price) (lent book.old times.old prices.old) result (lent book.new times.new prices.new) }
 {
     let message = letters::closing(time, participant, price);
-    book::tell(book, times, prices, stock, message)
+    book::step(book, times, prices, stock, message)
 }

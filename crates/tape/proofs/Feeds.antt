@@ -1,33 +1,43 @@
 -- Where a line ends.
 -- Assumes nothing.
-use Prim.Native.Nat.{ℕ, zero, suc, ◌≤◌, ◌<◌}
-use mathlib.Core.Bool.{Bool, true, not}
+use Prim.Native.Nat.{ℕ, suc, ◌+◌, ◌≤◌, ◌<◌}
+use mathlib.Core.Bool.{Bool, true, false, not}
 use mathlib.Core.List.{List, [], ◌∷◌, ◌++◌}
-use mathlib.Core.Path.{◌≡◌, refl, sym, ap, ◌∙◌}
+use mathlib.Core.Path.{◌≡◌, refl, ap, ◌∙◌}
 use native.Mathlib.Nat.{not-suc-le-zero}
 use native.Mathlib.Omega.{arith}
-use borrow.Author.Tests.{not-true, eq-eqb, ne_eqb}
+use borrow.Author.Tests.{not-true, ltb-false}
 use lib.Dec.{eqb}
-use lib.ListN.{length, get_or}
+use lib.ListN.{length}
+use Rattle.std.specs.Prelude.{Option, Some, None, cond, nat_lt, position, ◌==◌}
+use Rattle.std.specs.List.{position_or_len}
+use Rattle.std.specs.Option.{unwrap_or}
+use Rattle.std.proofs.lemmas.List.Sums.{prefix_len-le-length}
 use Rattle.forms.specs.Choice.{if◌then◌otherwise◌}
 use Rattle.forms.specs.Tables.{every}
-use Rattle.forms.proofs.Choice.{if_true, if_false, all_head, all_tail, all_leb, all_yes, all_empty, ne_not}
+use Rattle.forms.proofs.Choice.{if_false, all_head, all_tail, all_leb, all_yes, all_empty, ne_not}
 use Rattle.tape.specs.Lines.{is_digit, is_number, parted, numbers_after, numbers_in, IsLine, index_of, to_feed}
 use Rattle.tape.proofs.Scanning.{all_digits}
 
--- how many bytes stand before the first b, all where there is none: b is not before k, and at k it is, or the text ends
-pub index_found : (b : ℕ) (text : List ℕ) (k : ℕ) → ((j : ℕ) → j < k → get_or text j 0 ≡ b → ⊥) → k < length text → get_or text k 0 ≡ b → k ≡ index_of b text
-unfolding index_of
-index_found b [] k h l e = absurd (omega arith)
-index_found b (c ∷ text) zero h l e = sym (if_true _ _ _ (eq-eqb c b e))
-index_found b (c ∷ text) (suc k) h l e =
-    ap suc (index_found b text k (λ j m. h (suc j) (omega arith)) (omega arith) e) ∙ sym (if_false _ _ _ (ne_eqb c b (h 0 (omega arith))))
+-- where the first b stands, or else all bytes: that is how many bytes stand before it
+index_is : (b : ℕ) (text : List ℕ) → position_or_len (λ c. c == b) text ≡ index_of b text
+unfolding index_of if◌then◌otherwise◌
+index_is b [] = refl
+index_is b (c ∷ text) = go (eqb c b) (position_or_len (λ c. c == b) text) (index_is b text)
+  where
+    go : (x : Bool) (n : ℕ) → n ≡ index_of b text → cond (not x) (1 + n) 0 ≡ (if x then 0 otherwise suc (index_of b text))
+    go true n e = refl
+    go false n e = omega arith
 
-pub index_none : (b : ℕ) (text : List ℕ) → ((j : ℕ) → j < length text → get_or text j 0 ≡ b → ⊥) → length text ≡ index_of b text
-unfolding index_of
-index_none b [] h = refl
-index_none b (c ∷ text) h =
-    ap suc (index_none b text (λ j m. h (suc j) (omega arith))) ∙ sym (if_false _ _ _ (ne_eqb c b (h 0 (omega arith))))
+pub first_of : (b : ℕ) (text : List ℕ) (o : Option ℕ) (k : ℕ) → o ≡ position (λ c. c == b) text → k ≡ unwrap_or o (length text) → k ≡ index_of b text
+first_of b text o k f e = e ∙ ap (λ x. unwrap_or x (length text)) f ∙ go (nat_lt n (length text)) refl ∙ index_is b text
+  where
+    n : ℕ
+    n = position_or_len (λ c. c == b) text
+
+    go : (x : Bool) → nat_lt n (length text) ≡ x → unwrap_or (cond x (Some n) None) (length text) ≡ n
+    go true q = refl
+    go false q = omega (arith, ltb-false n (length text) q, prefix_len-le-length (λ c. not (c == b)) text)
 
 -- ------------------------------------------------------------------ no byte of a line is a line feed
 

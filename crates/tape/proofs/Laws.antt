@@ -9,6 +9,7 @@ use native.Mathlib.Omega.{arith}
 use borrow.Author.Tests.{le-leb}
 use lib.ListN.{length, take, replicate, length-append, length-map}
 use lib.Seq.{take_at}
+use Rattle.std.specs.Prelude.{Option, Some}
 use Rattle.forms.specs.Choice.{if◌then◌otherwise◌, all_of, any_of}
 use Rattle.forms.specs.Tables.{every}
 use Rattle.forms.proofs.Choice.{all_head, all_tail, all_yes, all_empty}
@@ -16,7 +17,7 @@ use Rattle.forms.proofs.Promises.{agree}
 use Rattle.tape.specs.Lines.{is_digit, further, spelt, is_number, parted, numbers_in, line_of, unread, Reads, index_of, to_feed}
 use Rattle.tape.specs.Lines.Reads.{a_line, no_line}
 use Rattle.tape.specs.Printing.{decimal, digits, ahead, printed, printing}
-use Rattle.tape.specs.Scanning.{opened, lengthened, digit, step, place, finished, scanned}
+use Rattle.tape.specs.Scanning.{opened, digit, step, closed, kept, wanted, finished, scanned}
 use Rattle.tape.specs.Examples.{right, words, AllRead, lines, ends, endings, FirstLine}
 use Rattle.tape.specs.Laws.{ReadsBack, OneWay, NoLonger, SpeltIs, Laws}
 use Rattle.tape.specs.declared.Line.{Line}
@@ -76,17 +77,18 @@ read_back n h =
 -- ------------------------------------------------------------------ in one way only
 
 -- what is promised of a text is what reading it byte by byte comes to
-read_scanned : (text : List ℕ) (r : Line) → Reads text r → r ≡ scanned text
+read_scanned : (text : List ℕ) (r : Option Line) → Reads text r → r ≡ scanned text
 read_scanned text r (a_line l ws p e) = e ∙ sym (scanned_line text l ws p)
 read_scanned text r (no_line f e) = e ∙ sym (none (scanned text) (reads text))
   where
-    none : (s : Line) → Reads text s → s ≡ unread
+    none : (s : Option Line) → Reads text s → s ≡ unread
     none s (a_line l ws p q) = absurd (f l ws p)
     none s (no_line g q) = q
 
 one_way : OneWay
 one_way text l m ws vs p q =
-    let e : line_of l ws ≡ line_of m vs = sym (scanned_line text l ws p) ∙ scanned_line text m vs q in
+    let s : Some (line_of l ws) ≡ Some (line_of m vs) = sym (scanned_line text l ws p) ∙ scanned_line text m vs q in
+    let e : line_of l ws ≡ line_of m vs = cc in
     let a : l ≡ m = ap (λ x. x.letter) e in
     let n : length ws ≡ length vs = p.many ∙ rw a (sym q.many) in
     let t = take_at (map spelt ws) (replicate (5 - length ws) 0) (length ws) (length-map ws spelt) in
@@ -111,7 +113,7 @@ unfolding every right is_number is_digit spelt further all_of if◌then◌otherw
 words_are_right = refl
 
 lines_are_read : AllRead lines
-unfolding scanned finished step opened digit lengthened place numbers_in further any_of if◌then◌otherwise◌
+unfolding scanned wanted finished step opened digit closed kept numbers_in further any_of if◌then◌otherwise◌
 lines_are_read = (reads _, (reads _, (reads _, (reads _, (reads _, (reads _, (reads _, (reads _, (reads _, (reads _, (reads _, (reads _, (reads _, (reads _, (reads _, (reads _, (reads _, tt)))))))))))))))))
 
 feeds_end_lines : every ends endings ≡ true

@@ -9,9 +9,10 @@ use native.Mathlib.Numerals.{add-one}
 use native.Mathlib.Omega.{arith}
 use borrow.Author.Tests.{lt-ltb, le-ltb, ltb-true, ltb-false}
 use lib.Dec.{ltb}
-use lib.ListN.{length, get_or, set, take, length-set, length-append}
+use lib.ListN.{length, get_or, set, take, length-append}
 use lib.Seq.{append_snoc, sets, take-suc, take_all, length-take-le}
 use Rattle.forms.proofs.Choice.{if_true, if_false, goes, arms, tests}
+use Rattle.std.proofs.lemmas.List.{map-append}
 use Rattle.tape.specs.Lines.{parted}
 use Rattle.tape.specs.Printing.{decimal, digits, two, ahead, printed, Printed, printing}
 
@@ -20,10 +21,6 @@ use Rattle.tape.specs.Printing.{decimal, digits, two, ahead, printed, Printed, p
 pub sets_append : {A : Type 0} (l : List A) (i : ℕ) (vs ws : List A) → sets l i (vs ++ ws) ≡ sets (sets l i vs) (i + length vs) ws
 sets_append l i [] ws = rw (add-zero i)
 sets_append l i (v ∷ vs) ws = rw (add-suc i (length vs), ← suc-add i (length vs)) (sets_append (set l i v) (suc i) vs ws)
-
--- what keeps the length of a list after a store keeps the list's
-pub kept_set : (o p : List ℕ) (i x : ℕ) → length p ≡ length (set o i x) → length p ≡ length o
-kept_set o p i x e = e ∙ length-set o i x
 
 -- one text behind another
 pub behind : (o p q vs ws : List ℕ) (at a : ℕ) → a ≡ at + length vs → p ≡ sets o at vs → q ≡ sets p a ws → q ≡ sets o at (vs ++ ws)
@@ -139,10 +136,6 @@ field_to at n r e = rw (parted_one (digits n)) (omega arith)
 pub field_out : (o q : List ℕ) (at n : ℕ) → q ≡ sets (set o at 32) (at + 1) (digits n) → q ≡ sets o at (parted (digits n ∷ []))
 field_out o q at n e = rw (parted_one (digits n)) (rw (add-one at) at e)
 
-map-append : {A B : Type 0} (f : A → B) (xs ys : List A) → map f (xs ++ ys) ≡ map f xs ++ map f ys
-map-append f [] ys = refl
-map-append f (x ∷ xs) ys = rw (map-append f xs ys)
-
 -- one number more
 one_more : (ns : List ℕ) (i : ℕ) → i < length ns → parted (map digits (take (i + 1) ns)) ≡ parted (map digits (take i ns)) ++ parted (digits (get_or ns i 0) ∷ [])
 one_more ns i h = rw (add-one i, take-suc ns i 0 h, map-append digits (take i ns) (get_or ns i 0 ∷ []), parted_append)
@@ -157,13 +150,9 @@ pub fields_out : (ns o p q : List ℕ) (n i at to : ℕ) → n ≡ length ns →
 fields_out ns o p q n i at to m h e f g = rw (one_more ns i (omega arith)) (behind o p q (parted (map digits (take i ns))) _ at to e f g)
 
 -- all of them
-pub fields_all_to : (ns : List ℕ) (n i at to : ℕ) → n ≡ length ns → n ≤ i → to ≡ at + length (parted (map digits (take i ns)))
+fields_all_to : (ns : List ℕ) (n i at to : ℕ) → n ≡ length ns → n ≤ i → to ≡ at + length (parted (map digits (take i ns)))
     → to ≡ at + length (parted (map digits ns))
 fields_all_to ns n i at to m h e = rw (take_all i ns (omega arith)) at e
-
-pub fields_all_out : (ns o q : List ℕ) (n i at : ℕ) → n ≡ length ns → n ≤ i → q ≡ sets o at (parted (map digits (take i ns)))
-    → q ≡ sets o at (parted (map digits ns))
-fields_all_out ns o q n i at m h e = rw (take_all i ns (omega arith)) at e
 
 -- each takes a space and at most twenty digits
 pub fields_most : (ns : List ℕ) → length (parted (map digits ns)) ≤ 21 * length ns
@@ -215,15 +204,17 @@ module _ (stock time letter at b c : ℕ) (ns : List ℕ) (e : b ≡ at + length
 
 -- ------------------------------------------------------------------ what `print` gives
 
-pub print_done : (bytes out ns : List ℕ) (at stock time letter r : ℕ) → length ns ≤ 16 → 380 ≤ length bytes → at ≤ length bytes - 380
+pub print_done : (bytes out ns : List ℕ) (at stock time letter r : ℕ) → length ns ≤ 16 → 380 ≤ length bytes - at
     → r ≡ at + length (printed stock time letter ns) → out ≡ sets bytes at (printed stock time letter ns)
     → ◌≡◌ {A = Printed} (record { to = r; bytes = out }) (printing bytes at stock time letter ns)
 unfolding printing
-print_done bytes out ns at stock time letter r h k l e f =
+print_done bytes out ns at stock time letter r h k e f =
     let room : at + 380 ≤ length bytes = omega arith in
     goes _ _ _ _ (search (tests, room)) (rw (e, f))
 
-pub print_short : (bytes ns : List ℕ) (at stock time letter : ℕ) → length bytes < at + 380
+pub print_short : (bytes ns : List ℕ) (at stock time letter : ℕ) → length bytes - at < 380
     → ◌≡◌ {A = Printed} (record { to = at; bytes = bytes }) (printing bytes at stock time letter ns)
 unfolding printing
-print_short bytes ns at stock time letter h = search (arms, tests)
+print_short bytes ns at stock time letter h =
+    let short : length bytes < at + 380 = omega arith in
+    search (arms, tests, short)

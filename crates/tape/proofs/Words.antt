@@ -9,6 +9,7 @@ use native.Mathlib.Omega.{arith}
 use borrow.Author.Tests.{eqb-true, eq-eqb}
 use lib.Dec.{eqb}
 use lib.ListN.{length, get_or, get_or-append, length-map}
+use Rattle.std.proofs.lemmas.List.{get_or-map}
 use Rattle.forms.specs.Choice.{if◌then◌otherwise◌}
 use Rattle.forms.specs.Tables.{every}
 use Rattle.forms.specs.Words.{◌or◌, ◌and◌, Gives}
@@ -85,13 +86,8 @@ line_is text letter ws = (
 
 -- ------------------------------------------------------------------ what is read of it
 
-spelt_at : (ws : List (List ℕ)) (j : ℕ) → j < length ws → get_or (map spelt ws) j 0 ≡ spelt (get_or ws j [])
-spelt_at [] j l = absurd (omega arith)
-spelt_at (w ∷ ws) zero l = refl
-spelt_at (w ∷ ws) (suc j) l = spelt_at ws j (omega arith)
-
 pub read_as : ReadAs
-read_as letter ws = (refl, ((λ j l. get_or-append (map spelt ws) _ 0 j (simp length-map l) ∙ spelt_at ws j l), refl))
+read_as letter ws = (refl, ((λ j l. get_or-append (map spelt ws) _ 0 j (simp length-map l) ∙ get_or-map spelt ws j [] 0 l), refl))
 
 -- ------------------------------------------------------------------ what is printed
 

@@ -1,6 +1,6 @@
 -- Words and lines at the edges of what is read and printed, computed (document 01, "The day program").
 -- Assumes nothing.
-use Rattle.std.specs.Prelude.{ℕ, Bool, true, false, not, List, [], ◌∷◌, ◌≡◌, eqb}
+use Rattle.std.specs.Prelude.{ℕ, Bool, true, false, not, List, [], ◌∷◌, ◌≡◌, eqb, Option, Some}
 use Rattle.forms.specs.Choice.{if◌then◌otherwise◌, all_of}
 use Rattle.tape.specs.Lines.{is_number, spelt, unread, Reads, to_feed}
 use Rattle.tape.specs.Printing.{printed}
@@ -36,7 +36,7 @@ words =
 -- a text, and what is read in it
 pub record Example : Type 0 where
   pub text : List ℕ
-  pub line : Line
+  pub line : Option Line
 
 -- each text is read as its example says
 abbrev pub AllRead : List Example → Type 0
@@ -48,14 +48,14 @@ AllRead (e ∷ es) = Reads e.text e.line × AllRead es
 -- return (13), the same with a tab (9) for its first space, and no byte
 abbrev pub lines : List Example
 lines =
-    record { text = (67 ∷ 32 ∷ 49 ∷ 32 ∷ 55 ∷ 32 ∷ 50 ∷ 51 ∷ 52 ∷ 48 ∷ 48 ∷ 48 ∷ 48 ∷ 48 ∷ []); line = record { letter = 67; numbers = 1 ∷ 7 ∷ 23_400_000 ∷ 0 ∷ 0 ∷ [] } }
-    ∷ record { text = (83 ∷ 32 ∷ 50 ∷ 32 ∷ 49 ∷ 32 ∷ 50 ∷ 32 ∷ 49 ∷ 49 ∷ 53 ∷ 48 ∷ 48 ∷ 48 ∷ []); line = record { letter = 83; numbers = 2 ∷ 1 ∷ 2 ∷ 115_000 ∷ 0 ∷ [] } }
-    ∷ record { text = (84 ∷ 32 ∷ 48 ∷ 32 ∷ 53 ∷ 48 ∷ 48 ∷ 48 ∷ 32 ∷ 57 ∷ 50 ∷ 48 ∷ 48 ∷ 48 ∷ []); line = record { letter = 84; numbers = 0 ∷ 5_000 ∷ 92_000 ∷ 0 ∷ 0 ∷ [] } }
-    ∷ record { text = (81 ∷ 32 ∷ 48 ∷ 32 ∷ 50 ∷ 48 ∷ 48 ∷ 48 ∷ 32 ∷ 53 ∷ 32 ∷ 49 ∷ 49 ∷ 52 ∷ 57 ∷ 48 ∷ 48 ∷ 32 ∷ 49 ∷ 49 ∷ 53 ∷ 49 ∷ 48 ∷ 48 ∷ []); line = record { letter = 81; numbers = 0 ∷ 2_000 ∷ 5 ∷ 114_900 ∷ 115_100 ∷ [] } }
-    ∷ record { text = (79 ∷ 32 ∷ 48 ∷ 32 ∷ 49 ∷ 48 ∷ 48 ∷ 48 ∷ 32 ∷ 50 ∷ 32 ∷ 49 ∷ 49 ∷ 53 ∷ 48 ∷ 48 ∷ 48 ∷ []); line = record { letter = 79; numbers = 0 ∷ 1_000 ∷ 2 ∷ 115_000 ∷ 0 ∷ [] } }
-    ∷ record { text = (80 ∷ 32 ∷ 48 ∷ 32 ∷ 53 ∷ 48 ∷ 48 ∷ 48 ∷ 32 ∷ 50 ∷ []); line = record { letter = 80; numbers = 0 ∷ 5_000 ∷ 2 ∷ 0 ∷ 0 ∷ [] } }
-    ∷ record { text = (82 ∷ 32 ∷ 48 ∷ 32 ∷ 51 ∷ 49 ∷ 57 ∷ 48 ∷ 48 ∷ 48 ∷ 32 ∷ 50 ∷ 32 ∷ 57 ∷ 53 ∷ 48 ∷ 48 ∷ 48 ∷ []); line = record { letter = 82; numbers = 0 ∷ 319_000 ∷ 2 ∷ 95_000 ∷ 0 ∷ [] } }
-    ∷ record { text = (88 ∷ 32 ∷ 48 ∷ 32 ∷ 53 ∷ 48 ∷ 48 ∷ 48 ∷ 32 ∷ 50 ∷ 32 ∷ 55 ∷ []); line = record { letter = 88; numbers = 0 ∷ 5_000 ∷ 2 ∷ 7 ∷ 0 ∷ [] } }
+    record { text = (67 ∷ 32 ∷ 49 ∷ 32 ∷ 55 ∷ 32 ∷ 50 ∷ 51 ∷ 52 ∷ 48 ∷ 48 ∷ 48 ∷ 48 ∷ 48 ∷ []); line = Some (record { letter = 67; numbers = 1 ∷ 7 ∷ 23_400_000 ∷ 0 ∷ 0 ∷ [] }) }
+    ∷ record { text = (83 ∷ 32 ∷ 50 ∷ 32 ∷ 49 ∷ 32 ∷ 50 ∷ 32 ∷ 49 ∷ 49 ∷ 53 ∷ 48 ∷ 48 ∷ 48 ∷ []); line = Some (record { letter = 83; numbers = 2 ∷ 1 ∷ 2 ∷ 115_000 ∷ 0 ∷ [] }) }
+    ∷ record { text = (84 ∷ 32 ∷ 48 ∷ 32 ∷ 53 ∷ 48 ∷ 48 ∷ 48 ∷ 32 ∷ 57 ∷ 50 ∷ 48 ∷ 48 ∷ 48 ∷ []); line = Some (record { letter = 84; numbers = 0 ∷ 5_000 ∷ 92_000 ∷ 0 ∷ 0 ∷ [] }) }
+    ∷ record { text = (81 ∷ 32 ∷ 48 ∷ 32 ∷ 50 ∷ 48 ∷ 48 ∷ 48 ∷ 32 ∷ 53 ∷ 32 ∷ 49 ∷ 49 ∷ 52 ∷ 57 ∷ 48 ∷ 48 ∷ 32 ∷ 49 ∷ 49 ∷ 53 ∷ 49 ∷ 48 ∷ 48 ∷ []); line = Some (record { letter = 81; numbers = 0 ∷ 2_000 ∷ 5 ∷ 114_900 ∷ 115_100 ∷ [] }) }
+    ∷ record { text = (79 ∷ 32 ∷ 48 ∷ 32 ∷ 49 ∷ 48 ∷ 48 ∷ 48 ∷ 32 ∷ 50 ∷ 32 ∷ 49 ∷ 49 ∷ 53 ∷ 48 ∷ 48 ∷ 48 ∷ []); line = Some (record { letter = 79; numbers = 0 ∷ 1_000 ∷ 2 ∷ 115_000 ∷ 0 ∷ [] }) }
+    ∷ record { text = (80 ∷ 32 ∷ 48 ∷ 32 ∷ 53 ∷ 48 ∷ 48 ∷ 48 ∷ 32 ∷ 50 ∷ []); line = Some (record { letter = 80; numbers = 0 ∷ 5_000 ∷ 2 ∷ 0 ∷ 0 ∷ [] }) }
+    ∷ record { text = (82 ∷ 32 ∷ 48 ∷ 32 ∷ 51 ∷ 49 ∷ 57 ∷ 48 ∷ 48 ∷ 48 ∷ 32 ∷ 50 ∷ 32 ∷ 57 ∷ 53 ∷ 48 ∷ 48 ∷ 48 ∷ []); line = Some (record { letter = 82; numbers = 0 ∷ 319_000 ∷ 2 ∷ 95_000 ∷ 0 ∷ [] }) }
+    ∷ record { text = (88 ∷ 32 ∷ 48 ∷ 32 ∷ 53 ∷ 48 ∷ 48 ∷ 48 ∷ 32 ∷ 50 ∷ 32 ∷ 55 ∷ []); line = Some (record { letter = 88; numbers = 0 ∷ 5_000 ∷ 2 ∷ 7 ∷ 0 ∷ [] }) }
     ∷ record { text = (81 ∷ 32 ∷ 48 ∷ 32 ∷ 50 ∷ 48 ∷ 48 ∷ 48 ∷ 32 ∷ 53 ∷ 32 ∷ 49 ∷ 49 ∷ 52 ∷ 57 ∷ 48 ∷ 48 ∷ []); line = unread }
     ∷ record { text = (84 ∷ 32 ∷ 48 ∷ 32 ∷ 53 ∷ 48 ∷ 48 ∷ 48 ∷ 32 ∷ 57 ∷ 50 ∷ 48 ∷ 48 ∷ 48 ∷ 32 ∷ 49 ∷ []); line = unread }
     ∷ record { text = (116 ∷ 32 ∷ 48 ∷ 32 ∷ 53 ∷ 48 ∷ 48 ∷ 48 ∷ 32 ∷ 57 ∷ 50 ∷ 48 ∷ 48 ∷ 48 ∷ []); line = unread }

@@ -1,6 +1,6 @@
 -- What lines obey. Each field is a theorem: `laws` of proofs/Laws.antt proves the record.
 -- Assumes nothing.
-use Rattle.std.specs.Prelude.{ℕ, ◌+◌, ◌-◌, ◌*◌, ◌/◌, ◌%◌, ◌≤◌, ◌<◌, true, List, [], ◌∷◌, ◌++◌, map, ◌↔◌, ◌≡◌, length, get_or}
+use Rattle.std.specs.Prelude.{ℕ, ◌+◌, ◌-◌, ◌*◌, ◌/◌, ◌%◌, ◌≤◌, ◌<◌, true, List, [], ◌∷◌, ◌++◌, map, ◌↔◌, ◌≡◌, length, get_or, Option, None}
 use Rattle.forms.specs.Promises.{Determines}
 use Rattle.forms.specs.Tables.{every}
 use Rattle.forms.specs.Words.{◌and◌, Gives}
@@ -21,10 +21,10 @@ abbrev pub LineIs : Type 0
 LineIs = (text : List ℕ) (letter : ℕ) (words : List (List ℕ))
     → IsLine text letter words ↔ (text ≡ letter ∷ spaced words and Every IsWord words and 1 ≤ length words and Gives (counts letter) (length words))
 
--- a line is read as its letter and the numbers that its words spell, in their order; a text that is no line is read as letter 0
+-- a line is read as its letter and the numbers that its words spell, in their order; of a text that is no line nothing is read
 abbrev pub ReadAs : Type 0
 ReadAs = (letter : ℕ) (words : List (List ℕ)) → let l = line_of letter words in
-    l.letter ≡ letter and ((j : ℕ) → j < length words → get_or l.numbers j 0 ≡ spelt (get_or words j [])) and unread.letter ≡ 0
+    l.letter ≡ letter and ((j : ℕ) → j < length words → get_or l.numbers j 0 ≡ spelt (get_or words j [])) and unread ≡ None
 
 -- a number with one more digit is ten times the number before it, plus the digit
 abbrev pub SpeltIs : Type 0
@@ -79,6 +79,6 @@ pub record Laws : Type 0 where
   -- two results that a promise of src/lib.rt allows agree
   pub read_determined : (text : List ℕ) → Determines (λ r. Reads text r)
   pub feed_determined : (text : List ℕ) → Determines (λ (r : ℕ). r ≡ to_feed text)
-  pub unread_determined : Determines (λ (r : Line). r ≡ unread)
+  pub unread_determined : Determines (λ (r : Option Line). r ≡ unread)
   pub print_determined : (bytes : List ℕ) (at stock time letter : ℕ) (numbers : List ℕ)
       → Determines (λ (r : Printed). r ≡ printing bytes at stock time letter numbers)

@@ -1,6 +1,6 @@
 -- What a line of the day's input is (document 01, "The day program").
 -- Assumes nothing.
-use Rattle.std.specs.Prelude.{ℕ, suc, ◌+◌, ◌-◌, ◌*◌, ◌<◌, Bool, true, ◌≡◌, leb, eqb, length, replicate}
+use Rattle.std.specs.Prelude.{ℕ, suc, ◌+◌, ◌-◌, ◌*◌, ◌<◌, Bool, true, ◌≡◌, leb, eqb, length, replicate, Option, Some, None}
 use mathlib.Core.List.{List, [], ◌∷◌, ◌++◌, map, foldl}
 use Rattle.forms.specs.Choice.{if◌then◌otherwise◌, all_of}
 use Rattle.forms.specs.Tables.{every}
@@ -66,12 +66,12 @@ abbrev pub line_of : ℕ → List (List ℕ) → Line
 line_of letter words = record { letter = letter; numbers = map spelt words ++ replicate (5 - length words) 0 }
 
 -- the result for a text that cannot be read
-abbrev pub unread : Line
-unread = record { letter = 0; numbers = replicate 5 0 }
+abbrev pub unread : Option Line
+unread = None
 
 -- the promise of `read`: the content of the line, or the result for a text that is no line
-pub data Reads (text : List ℕ) (r : Line) : Type 0 where
-  a_line : (letter : ℕ) (words : List (List ℕ)) → IsLine text letter words → r ≡ line_of letter words → Reads text r
+pub data Reads (text : List ℕ) (r : Option Line) : Type 0 where
+  a_line : (letter : ℕ) (words : List (List ℕ)) → IsLine text letter words → r ≡ Some (line_of letter words) → Reads text r
   no_line : ((letter : ℕ) (words : List (List ℕ)) → IsLine text letter words → ⊥) → r ≡ unread → Reads text r
 
 -- how many bytes stand before the first b, all where there is none

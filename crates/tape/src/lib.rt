@@ -1,9 +1,9 @@
 // Reads and prints the lines of a day on slices of bytes. No function has a `requires`: bytes that are no line give
-// an unread line, and a line that does not fit is not printed.
+// `None`, and a line that does not fit is not printed.
 #![tactic(auto)]
 
-ghost use Rattle.std.specs.Prelude.{◌≡◌, ◌≤◌, length};
-ghost use Rattle.tape.specs.Lines.{index_of, to_feed, unread, Reads};
+ghost use Rattle.std.specs.Prelude.{◌≡◌, ◌≤◌, ◌==◌, length, position};
+ghost use Rattle.tape.specs.Lines.{to_feed, Reads};
 ghost use Rattle.tape.specs.Printing.{printing};
 
 mod put;
@@ -24,69 +24,44 @@ pub const LONGEST_PRINTED: usize = 380;
 // The content of a line.
 #[derive(Clone, Copy)]
 pub struct Line {
-    // 0: it cannot be read
     pub letter: u8,
-    // unused entries are 0
-    pub numbers: [u32; 5],
+    // unused entries are 0: a list of so many numbers as the letter has would need the heap
+    pub numbers: [u32; MOST_NUMBERS],
 }
 
-// How many bytes stand before the first line feed; all of them where there is none.
+// How many bytes stand before the first line feed; all of them, and no Option, where there is none, since its public
+// promise `tape.to_feed` says so.
 pub fn to_feed(text: &[u8]) -> usize
     ensures upper_bound { result ≤ length text.now }
     ensures value { result ≡ to_feed text.now }
 {
-    find(text, b'\n')
+    find(text, b'\n').unwrap_or(text.len())
 }
 
-// How many bytes stand before the first `byte`; all of them where there is none.
-fn find(text: &[u8], byte: u8) -> usize
-    ensures upper_bound { result ≤ length text.now }
-    ensures value { result ≡ index_of byte text.now }
+// Where the first `byte` stands, if there is one.
+fn find(text: &[u8], byte: u8) -> Option<usize>
+    ensures { result ≡ position (λ c. c == byte) text.now }
 {
-    for (i, c) in text.iter().enumerate() {
-        if *c == byte {
-            return i;
-        }
-    }
-    text.len()
-}
-
-// The result for a text that cannot be read.
-pub fn unread() -> Line
-    ensures { result ≡ unread }
-{
-    Line {
-        letter: 0,
-        numbers: [0; 5],
-    }
+    text.iter().position(|c| *c == byte)
 }
 
 // Reads a line, which is given without its line feed.
-pub fn read(line: &[u8]) -> Line
+pub fn read(line: &[u8]) -> Option<Line>
     ensures { Reads line.now result }
 {
-    if line.len() == 0 {
-        return unread();
-    }
-    let letter = line[0];
-    let want = scan::numbers_after(letter);
-    let fields = scan::over(line);
-    scan::finished(letter, want, fields)
+    let (letter, rest) = line.split_first()?;
+    let want = scan::numbers_after(*letter)?;
+    scan::over(rest)?.line(*letter, want)
 }
 
-// Puts a line from `at` on, and gives the place behind it; where fewer than LONGEST_PRINTED places are left, or the numbers are
-// more than MOST_PRINTED, puts nothing and gives `at`.
+// Puts a line from `at` on, and gives the place behind it; where fewer than LONGEST_PRINTED places are left, or the
+// numbers are more than MOST_PRINTED, puts nothing and gives `at`, and no Option, since its public promise
+// `tape.printing` says so.
 pub fn print(out: &mut [u8], at: usize, stock: u64, time: u64, letter: u8, numbers: &[u64]) -> usize
     ensures upper_bound { at ≤ length out.old → result ≤ length out.old }
     ensures out_after { record { to = result; bytes = out.new } ≡ printing out.old at stock time letter numbers.now }
 {
-    if MOST_PRINTED < numbers.len() {
-        return at;
-    }
-    if out.len() < LONGEST_PRINTED {
-        return at;
-    }
-    if out.len() - LONGEST_PRINTED < at {
+    if MOST_PRINTED < numbers.len() || out.len().saturating_sub(at) < LONGEST_PRINTED {
         return at;
     }
     put::line(out, at, stock, time, letter, numbers)

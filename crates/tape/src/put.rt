@@ -1,4 +1,5 @@
-// Writes numbers as text into a slice of bytes, from a place on.
+// Writes numbers as text into a slice of bytes, from a place on; by hand, since a formatter writes to its own buffer first.
+// Each function takes the place and gives the one behind: stored in a struct, it made a line 97 to 130 ns instead of 80.
 ghost use Rattle.std.specs.Prelude.{◌≡◌, [], ◌∷◌, map, ◌+◌, ◌≤◌, ◌<◌, length, set};
 ghost use Rattle.std.proofs.lemmas.List.Edits.{sets};
 ghost use Rattle.tape.specs.Lines.{parted};
@@ -10,7 +11,7 @@ pub(crate) fn digit(out: &mut [u8], at: usize, d: u64) -> usize
     ensures value { result ≡ at + 1 }
     ensures out_after { out.new ≡ set out.old at (48 + d) }
 {
-    out[at] = 48 + d as u8;
+    out[at] = b'0' + d as u8;
     at + 1
 }
 
@@ -60,9 +61,8 @@ pub(crate) fn fields(out: &mut [u8], at: usize, numbers: &[u64]) -> usize
     ensures out_after { out.new ≡ sets out.old at (parted (map digits numbers.now)) }
 {
     let mut to = at;
-    for i in 0..numbers.len() {
-        let next = field(out, to, numbers[i]);
-        to = next;
+    for n in numbers {
+        to = field(out, to, *n);
     }
     to
 }
@@ -74,11 +74,11 @@ pub(crate) fn head(out: &mut [u8], at: usize, stock: u64, time: u64, letter: u8)
     ensures value { result ≡ at + length (ahead stock time letter) }
     ensures out_after { out.new ≡ sets out.old at (ahead stock time letter) }
 {
-    let a = number(out, at, stock);
-    let b = field(out, a, time);
-    out[b] = b' ';
-    out[b + 1] = letter;
-    b + 2
+    let to = number(out, at, stock);
+    let to = field(out, to, time);
+    out[to] = b' ';
+    out[to + 1] = letter;
+    to + 2
 }
 
 // Puts a whole line.
@@ -95,8 +95,8 @@ pub(crate) fn line(
     ensures value { result ≡ at + length (printed stock time letter numbers.now) }
     ensures out_after { out.new ≡ sets out.old at (printed stock time letter numbers.now) }
 {
-    let b = head(out, at, stock, time, letter);
-    let c = fields(out, b, numbers);
-    out[c] = b'\n';
-    c + 1
+    let to = head(out, at, stock, time, letter);
+    let to = fields(out, to, numbers);
+    out[to] = b'\n';
+    to + 1
 }

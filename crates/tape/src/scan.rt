@@ -1,18 +1,17 @@
 // Scans a line after its letter, byte by byte: one space opens a number, and digits follow it. The open number is
 // kept apart from the earlier ones, so that the state of the loop stays in registers.
-ghost use Rattle.std.specs.Prelude.{◌≡◌, ◌≤◌, drop, set};
+ghost use Rattle.std.specs.Prelude.{◌≡◌, ◌≤◌, Some};
 ghost use mathlib.Core.List.{foldl};
-ghost use Rattle.tape.specs.Lines.{numbers_after};
-ghost use Rattle.tape.specs.Lines.{further as Lines·further};
-ghost use Rattle.tape.specs.Scanning.{stuck as Scanning·stuck, opened, lengthened, digit as Scanning·digit, step as Scanning·step, place as Scanning·place, begun, turn, finished as Scanning·finished};
+ghost use Rattle.tape.specs.Scanning.{wanted, opened, digit as Scanning·digit, step as Scanning·step, closed, begun, turn, finished};
 
 use crate::{Line, MOST_NUMBERS};
+
+// A number has at most this many digits.
+const MOST_DIGITS: u32 = 10;
 
 // How far a line has been read.
 #[derive(Clone, Copy)]
 pub struct Scan {
-    // nothing was wrong so far
-    pub good: bool,
     // how many numbers were opened
     pub count: usize,
     // how many bytes the last field has; the letter is a field of one
@@ -25,177 +24,108 @@ pub struct Scan {
 #[derive(Clone, Copy)]
 pub struct Reading {
     pub scan: Scan,
-    pub numbers: [u32; 5],
+    pub numbers: [u32; MOST_NUMBERS],
 }
 
-// Marks the scan as failed.
-pub(crate) fn stuck(s: Scan) -> Scan
-    ensures { result ≡ Scanning·stuck s }
-{
-    Scan {
-        good: false,
-        count: s.count,
-        digits: s.digits,
-        value: s.value,
+impl Scan {
+    // A space opens a number.
+    fn space(self) -> Option<Scan>
+        ensures { result ≡ opened self }
+    {
+        if self.digits == 0 || MOST_NUMBERS <= self.count {
+            return None;
+        }
+        Some(Scan {
+            count: self.count + 1,
+            digits: 0,
+            value: 0,
+        })
     }
-}
 
-// A space opens a number.
-pub(crate) fn space(s: Scan) -> Scan
-    ensures { result ≡ opened s }
-{
-    let count = s.count;
-    if s.digits == 0 {
-        return stuck(s);
+    // Adds a digit to the open number.
+    fn digit(self, c: u8) -> Option<Scan>
+        requires { (48 ≤ c) × (c ≤ 57) }
+        ensures { result ≡ Scanning·digit self c }
+    {
+        if self.count == 0 || MOST_DIGITS <= self.digits {
+            return None;
+        }
+        let tens = self.value.checked_mul(10)?;
+        let value = tens.checked_add(u32::from(c - b'0'))?;
+        Some(Scan {
+            digits: self.digits + 1,
+            value,
+            ..self
+        })
     }
-    if MOST_NUMBERS <= count {
-        return stuck(s);
-    }
-    Scan {
-        good: true,
-        count: count + 1,
-        digits: 0,
-        value: 0,
-    }
-}
 
-// The number with one more digit.
-pub(crate) fn further(n: u32, c: u8) -> u64
-    requires { (48 ≤ c) × (c ≤ 57) }
-    ensures { result ≡ Lines·further n c }
-{
-    10 * n as u64 + (c - 48) as u64
-}
+    // Takes the next byte.
+    fn step(self, c: u8) -> Option<Scan>
+        ensures { result ≡ Scanning·step self c }
+    {
+        match c {
+            b' ' => self.space(),
+            b'0'..=b'9' => self.digit(c),
+            _ => None,
+        }
+    }
 
-// Adds a digit to the open number, which becomes `value`.
-pub(crate) fn lengthen(s: Scan, value: u64) -> Scan
-    ensures { result ≡ lengthened s value }
-{
-    let digits = s.digits;
-    if 10 <= digits {
-        return stuck(s);
-    }
-    if 4_294_967_295 < value {
-        return stuck(s);
-    }
-    Scan {
-        good: true,
-        count: s.count,
-        digits: digits + 1,
-        value: value as u32,
-    }
-}
-
-// Takes a byte that is no space: it must be a digit of the open number.
-pub(crate) fn digit(s: Scan, c: u8) -> Scan
-    ensures { result ≡ Scanning·digit s c }
-{
-    if c < 48 {
-        return stuck(s);
-    }
-    if 57 < c {
-        return stuck(s);
-    }
-    if s.count == 0 {
-        return stuck(s);
-    }
-    let value = further(s.value, c);
-    lengthen(s, value)
-}
-
-// Takes the next byte.
-pub(crate) fn step(s: Scan, c: u8) -> Scan
-    ensures { result ≡ Scanning·step s c }
-{
-    if !s.good {
-        return stuck(s);
-    }
-    if c == 32 {
-        return space(s);
-    }
-    digit(s, c)
-}
-
-// Where a byte puts the open number: a space closes it; MOST_NUMBERS means nowhere.
-pub(crate) fn place(s: Scan, c: u8) -> usize
-    ensures { result ≡ Scanning·place s c }
-{
-    let count = s.count;
-    if c != 32 {
-        return MOST_NUMBERS;
-    }
-    if count == 0 {
-        return MOST_NUMBERS;
-    }
-    count - 1
-}
-
-// Puts a number into place `at`, if there is such a place.
-pub(crate) fn keep(numbers: &mut [u32], at: usize, value: u32)
-    ensures { numbers.new ≡ set numbers.old at value }
-{
-    if at < numbers.len() {
-        numbers[at] = value;
+    // Puts the open number, if there is one, into its place.
+    fn close(self, numbers: &mut [u32; MOST_NUMBERS])
+        ensures { numbers.new ≡ closed numbers.old self }
+    {
+        if 0 < self.count && self.count <= MOST_NUMBERS {
+            numbers[self.count - 1] = self.value;
+        }
     }
 }
 
 // Scans all bytes after the letter.
-pub(crate) fn over(line: &[u8]) -> Reading
-    ensures { result ≡ foldl turn begun (drop 1 line.now) }
+pub(crate) fn over(bytes: &[u8]) -> Option<Reading>
+    ensures { result ≡ foldl turn (Some begun) bytes.now }
 {
     let mut scan = Scan {
-        good: true,
         count: 0,
         digits: 1,
         value: 0,
     };
-    let mut numbers = [0u32; 5];
-    for i in 1..line.len() {
-        let c = line[i];
-        let at = place(scan, c);
-        keep(&mut numbers, at, scan.value);
-        let next = step(scan, c);
-        scan = next;
+    let mut numbers = [0; MOST_NUMBERS];
+    for c in bytes {
+        if *c == b' ' {
+            scan.close(&mut numbers);
+        }
+        scan = scan.step(*c)?;
     }
-    Reading { scan, numbers }
+    Some(Reading { scan, numbers })
 }
 
-// How many numbers follow a letter; 0 where no line begins with it.
-pub(crate) fn numbers_after(letter: u8) -> usize
-    ensures { result ≡ numbers_after letter }
+// How many numbers follow a letter, if a line begins with it; one arm for each letter, as `tape.table` has one row for each.
+pub(crate) fn numbers_after(letter: u8) -> Option<usize>
+    ensures { result ≡ wanted letter }
 {
     match letter {
-        b'C' => 3,
-        b'S' => 4,
-        b'T' => 3,
-        b'Q' => 5,
-        b'O' => 4,
-        b'P' => 3,
-        b'R' => 4,
-        b'X' => 4,
-        _ => 0,
+        b'C' => Some(3),
+        b'S' => Some(4),
+        b'T' => Some(3),
+        b'Q' => Some(5),
+        b'O' => Some(4),
+        b'P' => Some(3),
+        b'R' => Some(4),
+        b'X' => Some(4),
+        _ => None,
     }
 }
 
-// The line of that letter, if exactly `want` numbers were read and `want` is not 0.
-pub(crate) fn finished(letter: u8, want: usize, r: Reading) -> Line
-    ensures { result ≡ Scanning·finished letter want r }
-{
-    let s = r.scan;
-    let mut numbers = r.numbers;
-    if !s.good {
-        return crate::unread();
+impl Reading {
+    // The line of that letter, if exactly `want` numbers were read.
+    pub(crate) fn line(self, letter: u8, want: usize) -> Option<Line>
+        ensures { result ≡ finished letter want self }
+    {
+        if self.scan.count != want || self.scan.digits == 0 {
+            return None;
+        }
+        let mut numbers = self.numbers;
+        self.scan.close(&mut numbers);
+        Some(Line { letter, numbers })
     }
-    if want == 0 {
-        return crate::unread();
-    }
-    if s.count != want {
-        return crate::unread();
-    }
-    if s.digits == 0 {
-        return crate::unread();
-    }
-    let at = place(s, 32);
-    keep(&mut numbers, at, s.value);
-    Line { letter, numbers }
 }

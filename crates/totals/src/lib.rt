@@ -14,10 +14,12 @@ use rules::{HIGHEST_PRICE, Message, StateTimes, Totals};
 mod one;
 
 // Whether the six times do not add up to the clock, or the highest or the lowest is over the price range.
+#[tactic(auto, using(forms::proofs::Bools::joined), unfolding(rules::specs::Totals::wrong_totals))]
 pub fn is_wrong(t: Totals, clock: u32) -> bool
     ensures { result ≡ wrong_totals clock t }
 {
     let s = t.spent;
+    // six terms of 32 bits show that the sum fits; a fold over an array of them needs a proof of its bound
     let all = (s.waiting as u64)
         + (s.trading as u64)
         + (s.limit as u64)
@@ -27,21 +29,19 @@ pub fn is_wrong(t: Totals, clock: u32) -> bool
     (all != (clock as u64)) | (HIGHEST_PRICE < t.highest) | (HIGHEST_PRICE < t.lowest)
 }
 
-// The price of a trade message, and 0 for any other message.
+// The price of a trade message, and 0 for any other message: `rules.traded_by` says the number 0, as document 01 does for
+// an absent price, so an Option here and in `brought` would be turned back into it at once.
 pub fn traded(m: Message) -> u32
     ensures { result ≡ traded_by (message m) }
 {
     match m {
         Message::Trade { price, .. } => price,
-        Message::Quote { .. } => 0,
-        Message::Opening { .. } => 0,
-        Message::Pause { .. } => 0,
-        Message::Reopening { .. } => 0,
-        Message::Closing { .. } => 0,
+        _ => 0,
     }
 }
 
-// The six times, after so much more in a state.
+// The six times, after so much more in a state, which is any number of a lent record; a match on it with struct update
+// would have as many lines, and a branch.
 fn spent(t: StateTimes, state: u32, more: u32) -> StateTimes
     requires { spent_in_all t + more < 2 ^ 32 }
     ensures { result ≡ spend state more t }
@@ -64,15 +64,15 @@ pub fn brought(t: Totals, price: u32, before: Kept, after: Kept) -> Totals
     if is_wrong(t, clock) {
         return t;
     }
-    let more = one::since(clock, after.course.clock);
+    let more = after.course.clock.saturating_sub(clock);
     let state = before.course.state;
     let limit = one::begins_limit(before, after);
     let pause = one::begins_pause(state, after.course.state);
     Totals {
         spent: spent(t.spent, state, more),
-        limits: one::one_more(limit, t.limits),
-        pauses: one::one_more(pause, t.pauses),
-        highest: one::highest_with(price, t.highest),
+        limits: t.limits.saturating_add(u32::from(limit)),
+        pauses: t.pauses.saturating_add(u32::from(pause)),
+        highest: t.highest.max(price),
         lowest: one::lowest_with(price, t.lowest),
     }
 }

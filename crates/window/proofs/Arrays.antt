@@ -1,36 +1,12 @@
--- The loops and the steps of src/one.rt: what becomes of the places of one array.
+-- The steps of src/one.rt: what becomes of the places of one array.
 -- Assumes nothing.
-use Rattle.std.proofs.Common.{◌≡◌, ℕ, zero, suc, ◌+◌, ◌-◌, ◌<◌, ◌≤◌, max, List, [], ◌∷◌, ◌++◌, length, get_or, take, drop, set, replicate, sym, ◌∙◌, append_assoc, append-nil, add_comm, zero-add, add-one, arith, length-append, length-drop, drop_of_length-le, length-take, length-take-le, get_or-drop, drop-drop, take_at, get_or-append-add, take-add, drop_at}
-use native.Mathlib.Nat.{max-eq_left, max-eq_right}
-use borrow.Author.Fill.{fill_more}
+use Rattle.std.proofs.Common.{min, ◌≡◌, ℕ, zero, suc, ◌+◌, ◌-◌, ◌<◌, ◌≤◌, max, List, [], ◌∷◌, ◌++◌, length, take, drop, set, replicate, sym, ◌∙◌, append_assoc, add_comm, zero-add, add-one, arith, length-append, length-drop, drop_of_length-le, length-take, length-take-le, drop-drop, take_at, take-add, drop_at}
+use native.Mathlib.Decide.{dec_le}
+use native.Mathlib.Nat.{max-eq_left, max-eq_right, min-eq_left, min-eq_right, min-le_right}
 use borrow.Rule.Slice.PartMut.{mid_of, put_mid}
-use lib.Seq.{drop-length, paste-suc, set_split}
+use lib.Seq.{paste, set_split}
 use Rattle.window.specs.Places.{laid, placed}
 use Rattle.window.proofs.Window.{placed_fits, placed_short}
-
--- ------------------------------------------------------------------ making places 0
-
-pub zero_turn : (d xs : List ℕ) (n i : ℕ) → n ≡ length d → i < n → xs ≡ replicate i 0 ++ drop i d → set xs i 0 ≡ replicate (i + 1) 0 ++ drop (i + 1) d
-zero_turn d xs n i m h e = rw e (fill_more i 0 d (omega arith))
-
-pub zero_done : (d xs : List ℕ) (n i : ℕ) → n ≡ length d → i ≤ n → n ≤ i → xs ≡ replicate i 0 ++ drop i d → xs ≡ replicate (length d) 0
-zero_done d xs n i m h k e =
-    let q : i ≡ length d = omega arith in
-    simp (e, q, drop-length, append-nil)
-
--- ------------------------------------------------------------------ moving places down
-
--- the place that is read next has not been placed yet
-not_yet : (d : List ℕ) (g i : ℕ) → g + i < length d → get_or (take i (drop g d) ++ drop i d) (g + i) 0 ≡ get_or (drop g d) i 0
-not_yet d g i h =
-    let m : length (take i (drop g d)) ≡ i = simp (length-take, length-drop) (omega arith) in
-    let e : g + i ≡ length (take i (drop g d)) + g = omega arith in
-    rw (e, get_or-append-add, get_or-drop i d g 0, get_or-drop g d i 0, add_comm i g)
-
-pub lower_turn : (d xs : List ℕ) (g i : ℕ) → g + i < length d → xs ≡ take i (drop g d) ++ drop i d
-    → set xs i (get_or xs (g + i) 0) ≡ take (i + 1) (drop g d) ++ drop (i + 1) d
-lower_turn d xs g i h e =
-    rw (e, not_yet d g i h, add-one) (simp zero-add at (paste-suc d 0 (drop g d) i 0 (omega (arith, zero-add i)) (simp length-drop (omega arith))))
 
 -- ------------------------------------------------------------------ the first of the used places leave
 
@@ -56,26 +32,33 @@ lowered_parts g k d b =
 length_lowered : (g k : ℕ) (d : List ℕ) → g + k ≤ length d → length (take k (drop g d) ++ drop k d) ≡ length d
 length_lowered g k d b = simp (length-append, length-take, length-drop) (omega arith)
 
-pub slide_done : (g n : ℕ) (d l z : List ℕ) → g ≤ n → n ≤ length d → l ≡ take (n - g) (drop g d) ++ drop (n - g) d
-    → z ≡ replicate (length (mid_of (n - g) (n - (n - g)) l)) 0 → put_mid (n - g) (n - (n - g)) l z ≡ placed n (drop g (take n d)) d
-slide_done g n d l z a b e f =
-    let k : n - (n - g) ≡ g = omega arith in
-    let s : g + (n - g) ≡ n = omega arith in
-    let t : g + (n - g) ≤ length d = omega arith in
-    let q : length (take g (drop (n - g) (take (n - g) (drop g d) ++ drop (n - g) d))) ≡ g =
-    simp (length-take, length-drop, length_lowered g (n - g) d t) (omega arith) in
-    let p = rw s at (lowered_parts g (n - g) d t) in
-    rw (f, e, k, q) (p ∙ sym (laid_rest n g d a b))
-
-pub leave_short : (n g : ℕ) (xs : List ℕ) → length xs < n → xs ≡ placed n (drop g (take n xs)) xs
-leave_short n g xs h = sym (placed_short n _ xs (omega arith))
-
 pub none_left : {A : Type 0} (n g : ℕ) (xs : List A) → n ≤ g → drop g (take n xs) ≡ []
 none_left n g xs h = drop_of_length-le (take n xs) {i = g} (simp length-take (omega arith))
 
--- more than are used
-pub leave_all : (n g : ℕ) (xs ys : List ℕ) → n < g → ys ≡ placed n (drop n (take n xs)) xs → ys ≡ placed n (drop g (take n xs)) xs
-leave_all n g xs ys h e = e ∙ rw (none_left n n xs (omega arith), none_left n g xs (omega arith))
+module _ (n : ℕ) (d : List ℕ) (b : n ≤ length d) where
+  slid : (g : ℕ) (l z : List ℕ) → g ≤ n → l ≡ paste d 0 (drop g d) (n - g)
+      → z ≡ replicate (length (mid_of (n - g) (n - (n - g)) l)) 0 → put_mid (n - g) (n - (n - g)) l z ≡ placed n (drop g (take n d)) d
+  slid g l z a e f =
+      let k : n - (n - g) ≡ g = omega arith in
+      let s : g + (n - g) ≡ n = omega arith in
+      let t : g + (n - g) ≤ length d = omega arith in
+      let q : length (take g (drop (n - g) (take (n - g) (drop g d) ++ drop (n - g) d))) ≡ g =
+      simp (length-take, length-drop, length_lowered g (n - g) d t) (omega arith) in
+      let p = rw s at (lowered_parts g (n - g) d t) in
+      let moved : l ≡ take (n - g) (drop g d) ++ drop (n - g) d = e ∙ simp zero-add in
+      rw (f, moved, k, q) (p ∙ sym (laid_rest n g d a b))
+
+  -- where fewer than `gone` are used, all of them leave
+  pub leave_done : (gone g : ℕ) (l z : List ℕ) → g ≡ min gone n → l ≡ paste d 0 (drop g d) (n - g)
+      → z ≡ replicate (length (mid_of (n - g) (n - (n - g)) l)) 0 → put_mid (n - g) (n - (n - g)) l z ≡ placed n (drop gone (take n d)) d
+  leave_done gone g l z m e f = slid g l z (omega (arith, m, min-le_right gone n)) e f ∙ go (dec_le gone n)
+    where
+      go : Dec (gone ≤ n) → placed n (drop g (take n d)) d ≡ placed n (drop gone (take n d)) d
+      go (yes h) = rw (m ∙ min-eq_left h)
+      go (no h) = rw (m ∙ min-eq_right (omega arith), none_left n n d (omega arith), none_left n gone d (omega arith))
+
+pub leave_short : (n g : ℕ) (xs : List ℕ) → length xs < n → xs ≡ placed n (drop g (take n xs)) xs
+leave_short n g xs h = sym (placed_short n _ xs (omega arith))
 
 -- ------------------------------------------------------------------ one more
 

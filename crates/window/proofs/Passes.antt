@@ -1,27 +1,16 @@
--- The loops of src/pass.rt: a turn of each and its end, and what the two passes of a survey come to together.
+-- What the passes of src/pass.rt give, and what the two passes of a survey come to together.
 -- Assumes nothing.
-use Rattle.std.proofs.Common.{◌≡◌, ℕ, zero, suc, ◌+◌, ◌-◌, ◌*◌, ◌/◌, ◌%◌, ◌^◌, ◌<◌, ◌≤◌, Bool, true, false, ◌||◌, ltb, List, [], ◌∷◌, length, get_or, take, drop, sym, refl, ap, ◌∙◌, mod-lt, mod-eq_of_lt, add-one, arith, drop_of_length-le, length-take, length-take-le, drop-cons, get_or-take, take-suc, ltb-false, ltb-true, le-ltb, lt-ltb, ne_eqb}
-use mathlib.Core.Bool.{or-false}
+use Rattle.std.proofs.Common.{not, eqb, cond, zip, leb, take_all, ◌≡◌, ℕ, zero, suc, ◌+◌, ◌-◌, ◌%◌, ◌^◌, ◌<◌, ◌≤◌, Bool, true, false, ◌||◌, ltb, List, [], ◌∷◌, length, get_or, take, drop, sym, refl, ap, ◌∙◌, arith, length-take, take-suc, ltb-false, ltb-true, le-ltb, lt-ltb, ne_eqb}
+use mathlib.Core.Bool.{or-false, or-true}
 use mathlib.Core.List.{foldl, foldl-append}
-use native.Mathlib.Nat.{mod-add-div}
-use lib.Bits.{bit_or}
-use lib.ListN.{get_or-eq_default}
+use lib.Bits.{bit_or, or_zero_r}
+use Rattle.std.specs.List.{prefix_len}
+use borrow.Author.Tests.{leb-true, leb-false}
 use Rattle.forms.specs.Choice.{if◌then◌otherwise◌, any_of}
 use Rattle.forms.proofs.Bits.{or_left, or_right}
-use Rattle.forms.proofs.Choice.{if_true, if_false}
-use Rattle.forms.proofs.Loops.{fold_turn, fold_end}
 use Rattle.rules.specs.Numbers.{Seen, not_price, bad_trade, see, bad_trades}
 use Rattle.window.specs.Places.{trades, left_of}
 use Rattle.window.specs.Passes.{see_time, times_seen, see_price, prices_bad}
-
--- ------------------------------------------------------------------ a loop over the first n places
-
-module _ {A : Type 0} (f : A → ℕ → A) (xs : List ℕ) (n i : ℕ) (a w : A) (so_far : foldl f a (drop i (take n xs)) ≡ w) (m : n ≤ length xs) where
-  pub turn : (b : A) → i < n → b ≡ f a (get_or xs i 0) → foldl f b (drop (i + 1) (take n xs)) ≡ w
-  turn b h e = fold_turn f (take n xs) 0 a b w n i (length-take-le n xs m) h (e ∙ ap (f a) (sym (get_or-take n xs i 0 h))) so_far
-
-  pub done : n ≤ i → a ≡ w
-  done h = fold_end f (take n xs) a w n i (length-take-le n xs m) h so_far
 
 -- ------------------------------------------------------------------ the times
 
@@ -42,97 +31,79 @@ latest false clock before t = go (ltb clock before) (ltb clock t) (ltb t before)
     go false false true _ _ _ = refl
     go false false false _ _ _ = refl
 
--- what is seen up to the time t, where `bad` says whether one before it was out of order
-abbrev pub seen_to : ℕ → Bool → ℕ → Seen
-seen_to clock bad t = record { bad = bad || ltb clock t; last = t }
-
-pub no_times : (clock n : ℕ) (xs : List ℕ) → n ≡ 0 → false ≡ (times_seen clock (take n xs)).bad
+pub no_times : (clock : ℕ) (ts : List ℕ) → length ts ≡ 0 → false ≡ (times_seen clock ts).bad
 unfolding times_seen
-no_times clock n xs e = rw e
+no_times clock [] e = refl
+no_times clock (t ∷ ts) e = absurd (omega (arith, e))
 
--- there is none ahead of the first
-pub times_start : (clock n : ℕ) (xs : List ℕ) → (n ≡ 0 → ⊥) → n ≤ length xs
-    → foldl (see_time clock) (seen_to clock false (get_or xs 0 0)) (drop 1 (take n xs)) ≡ times_seen clock (take n xs)
+-- a time below the one ahead of it leaves bits
+abbrev pub falls : ℕ → ℕ × ℕ → ℕ
+falls bits p = bit_or bits (p.0 - p.1)
+
+fallen : (bits before t : ℕ) → not (eqb (bit_or bits (before - t)) 0) ≡ (not (eqb bits 0) || ltb t before)
+fallen bits before t = go (ltb t before) refl
+  where
+    go : (b : Bool) → ltb t before ≡ b → not (eqb (bit_or bits (before - t)) 0) ≡ (not (eqb bits 0) || b)
+    go true e =
+        let some : bit_or bits (before - t) ≡ 0 → ⊥ = λ z. omega (arith, z, ltb-true t before e, or_right bits (before - t)) in
+        rw (ne_eqb _ 0 some, or-true)
+    go false e =
+        let none : before - t ≡ 0 = omega (arith, ltb-false t before e) in
+        rw (none, or_zero_r bits, or-false)
+
+-- what is seen after more times, where `bits` say whether one up to the time t was out of order: the last of all is held against the clock
+seen_on : (clock t bits : ℕ) (ts : List ℕ)
+    → (foldl (see_time clock) (record { bad = not (eqb bits 0) || ltb clock t; last = t }) ts).bad
+    ≡ (not (eqb (foldl falls bits (zip (t ∷ ts) ts)) 0) || ltb clock (get_or (t ∷ ts) (length ts) 0))
+unfolding see_time
+seen_on clock t bits [] = refl
+seen_on clock t bits (u ∷ ts) =
+    ap (λ (b : Bool). (foldl (see_time clock) (record { bad = b; last = u }) ts).bad) (sym (latest (not (eqb bits 0)) clock t u))
+    ∙ ap (λ (b : Bool). (foldl (see_time clock) (record { bad = b || ltb clock u; last = u }) ts).bad) (sym (fallen bits t u))
+    ∙ seen_on clock u (bit_or bits (t - u)) ts
+
+pub times_are : (clock : ℕ) (ts others : List ℕ) (fall last : ℕ) → 0 < length ts → others ≡ take (length ts - 1) (drop 1 ts)
+    → fall ≡ foldl falls 0 (zip ts others) → last ≡ get_or ts (length ts - 1) 0 → (not (eqb fall 0) || ltb clock last) ≡ (times_seen clock ts).bad
 unfolding times_seen see_time
-times_start clock n xs some m =
-    turn (see_time clock) xs n 0 _ _ refl m _ (omega arith) (simp (le-ltb (get_or xs 0 0) 0 (omega arith), or-false))
-
-module _ (clock n i : ℕ) (xs : List ℕ) (bad : Bool) (w : Seen)
-    (so_far : foldl (see_time clock) (seen_to clock bad (get_or xs (i - 1) 0)) (drop i (take n xs)) ≡ w) (m : n ≤ length xs) where
-  pub time_turn : i < n
-      → foldl (see_time clock) (seen_to clock (bad || ltb (get_or xs i 0) (get_or xs (i - 1) 0)) (get_or xs (i + 1 - 1) 0)) (drop (i + 1) (take n xs)) ≡ w
-  unfolding see_time
-  time_turn h =
-      let t = get_or xs i 0 in
-      let here : i + 1 - 1 ≡ i = omega arith in
-      rw here (turn (see_time clock) xs n i _ w so_far m _ h (ap (λ (b : Bool). record { bad = b; last = t }) (latest bad clock (get_or xs (i - 1) 0) t)))
-
-  pub times_done : i ≤ n → n ≤ i → (bad || ltb clock (get_or xs (n - 1) 0)) ≡ w.bad
-  times_done h k =
-      let end : n ≡ i = omega arith in
-      rw end (ap (λ (s : Seen). s.bad) (done (see_time clock) xs n i _ w so_far m k))
+times_are clock [] others fall last some o b l = absurd (omega (arith, some))
+times_are clock (t ∷ ts) others fall last some o b l =
+    let n : length (t ∷ ts) - 1 ≡ length ts = omega arith in
+    let rest : others ≡ ts = o ∙ rw (n, take_all (length ts) ts (omega arith)) in
+    rw (b, rest, l, n) (sym (simp (le-ltb t 0 (omega arith), or-false) (seen_on clock t 0 ts)))
 
 -- ------------------------------------------------------------------ the bits of the prices, each less 1
 
--- where the bits are below 999,999,999, no price so far is out of range
-module _ (n i bits : ℕ) (xs : List ℕ) (so_far : bits < 999_999_999 → prices_bad (take i xs) ≡ false) where
-  pub price_turn : (less : ℕ) → i < n → n ≤ length xs → (less + 1) % 2 ^ 32 ≡ get_or xs i 0
-      → bit_or bits less < 999_999_999 → prices_bad (take (i + 1) xs) ≡ false
-  unfolding prices_bad see_price
-  price_turn less h m e low =
-      let bits_below = or_left bits less in
-      let less_below = or_right bits less in
-      let price : get_or xs i 0 ≡ less + 1 = sym e ∙ mod-eq_of_lt (omega arith) in
-      let good = so_far (omega arith) in
-      rw (add-one, take-suc xs i 0 (omega arith), foldl-append, good, price, ne_eqb (less + 1) 0 (λ z. omega arith), le-ltb 999_999_999 (less + 1) (omega arith))
+-- a price less 1, where 0 wraps
+abbrev pub less_one : ℕ → ℕ
+less_one p = (p + (2 ^ 32 - 1)) % 2 ^ 32
 
-  pub prices_done : i ≤ n → n ≤ i → bits < 999_999_999 → false ≡ prices_bad (take n xs)
-  prices_done h k low =
-      let end : n ≡ i = omega arith in
-      rw end (sym (so_far low))
+-- where less than 999,999,999 is left, the price was 1 to 999,999,999
+in_range : (p : ℕ) → p < 2 ^ 32 → less_one p < 999_999_999 → (1 ≤ p) × (p ≤ 999_999_999)
+in_range p fits low = (omega arith, omega arith)
 
--- ------------------------------------------------------------------ the sum of prices, in halves
-
-pub low_half : (p : ℕ) → p % 65_536 ≤ 65_535
-low_half p = omega (arith, mod-lt p {m = 65_536} (omega arith))
-
-pub high_half : (p : ℕ) → p < 4_294_967_296 → p / 65_536 ≤ 65_535
-high_half p h = omega (arith, mod-add-div p 65_536)
-
-module _ (xs : List ℕ) (n i low high w : ℕ) (so_far : foldl ◌+◌ (65_536 * high + low) (drop i (take n xs)) ≡ w) (m : n ≤ length xs) where
-  pub sum_turn : i < n → foldl ◌+◌ (65_536 * (high + get_or xs i 0 / 65_536) + (low + get_or xs i 0 % 65_536)) (drop (i + 1) (take n xs)) ≡ w
-  sum_turn h = turn ◌+◌ xs n i _ w so_far m _ h (omega (arith, mod-add-div (get_or xs i 0) 65_536))
-
--- a place of the first n, and past them
-pub at_here : (i n : ℕ) (xs : List ℕ) → i < n → get_or xs i 0 ≡ get_or (take n xs) i 0
-at_here i n xs h = sym (get_or-take n xs i 0 h)
-
-pub at_past : (i n : ℕ) (xs : List ℕ) → n ≤ i → n ≤ length xs → 0 ≡ get_or (take n xs) i 0
-at_past i n xs h m = sym (get_or-eq_default (take n xs) 0 {n = i} (simp length-take (omega arith)))
+-- where the bits of all are below 999,999,999, no price is out of range
+pub prices_are : (bits : ℕ) (ps : List ℕ) → ((i : ℕ) → get_or ps i 0 < 2 ^ 32) → foldl (λ b p. bit_or b (less_one p)) bits ps < 999_999_999
+    → (bits < 999_999_999) × (prices_bad ps ≡ false)
+unfolding prices_bad see_price
+prices_are bits [] fits low = (low, refl)
+prices_are bits (p ∷ ps) fits low =
+    let rest = prices_are (bit_or bits (less_one p)) ps (λ i. fits (suc i)) low in
+    let bits_below = or_left bits (less_one p) in
+    let less_below = or_right bits (less_one p) in
+    let good = in_range p (fits 0) (omega (arith, rest.0, less_below)) in
+    (omega (arith, rest.0, bits_below), rw (ne_eqb p 0 (λ z. omega (arith, good.0)), le-ltb 999_999_999 p good.1) rest.1)
 
 -- ------------------------------------------------------------------ how many have left
 
-module _ (t k n : ℕ) (xs : List ℕ) (m : n ≤ length xs) (so_far : left_of t (take n xs) ≡ k + left_of t (drop k (take n xs))) where
-  at_k : k < n → drop k (take n xs) ≡ get_or xs k 0 ∷ drop (suc k) (take n xs)
-  at_k h = rw (drop-cons (take n xs) k 0 (simp length-take (omega arith)), get_or-take n xs k 0 h)
-
-  pub stays : k < n → t < get_or xs k 0 + 300_000 → k ≡ left_of t (take n xs)
-  unfolding left_of
-  stays h l =
-      let z : left_of t (drop k (take n xs)) ≡ 0 = simp (at_k h, lt-ltb t _ l, if_true) in
-      omega (arith, so_far, z)
-
-  pub leaves : k < n → get_or xs k 0 + 300_000 ≤ t → left_of t (take n xs) ≡ k + 1 + left_of t (drop (k + 1) (take n xs))
-  unfolding left_of
-  leaves h l =
-      let z : left_of t (drop k (take n xs)) ≡ suc (left_of t (drop (suc k) (take n xs))) = simp (at_k h, le-ltb t _ l, if_false) in
-      rw add-one (omega (arith, so_far, z))
-
-  pub all_left : n ≤ k → k ≡ left_of t (take n xs)
-  unfolding left_of
-  all_left h =
-      let z : left_of t (drop k (take n xs)) ≡ 0 = rw (drop_of_length-le (take n xs) {i = k} (simp length-take (omega arith))) in
-      omega (arith, so_far, z)
+pub left_is : (t : ℕ) (us : List ℕ) → prefix_len (λ u. leb (u + 300_000) t) us ≡ left_of t us
+unfolding left_of if◌then◌otherwise◌
+left_is t [] = refl
+left_is t (u ∷ us) = go (leb (u + 300_000) t) refl (left_is t us)
+  where
+    go : (b : Bool) → leb (u + 300_000) t ≡ b → prefix_len (λ u. leb (u + 300_000) t) us ≡ left_of t us
+        → cond b (1 + prefix_len (λ u. leb (u + 300_000) t) us) 0 ≡ (if ltb t (u + 300_000) then 0 otherwise suc (left_of t us))
+    go true e rest = rw (le-ltb t _ (leb-true _ _ e)) (omega (arith, rest))
+    go false e rest = rw (lt-ltb t _ (leb-false _ _ e)) refl
 
 pub left_few : (t : ℕ) (xs : List ℕ) → left_of t xs ≤ length xs
 unfolding left_of if◌then◌otherwise◌

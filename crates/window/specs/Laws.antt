@@ -1,13 +1,12 @@
 -- What the places of a window obey. Each field is a theorem: `laws` of proofs/Laws.antt proves the record.
 -- Assumes nothing.
-use Rattle.std.specs.Prelude.{◌≡◌, ℕ, ◌<◌, ◌≤◌, true, List, map, length, drop, nat_lt, slice_index, slice_index_or}
+use Rattle.std.specs.Prelude.{◌≡◌, ℕ, ◌<◌, ◌≤◌, true, List, map, length, drop, nat_lt, slice_index, slice_index_or, Option}
 use Rattle.forms.specs.Choice.{if◌then◌otherwise◌}
 use Rattle.forms.specs.Promises.{Determines}
 use Rattle.rules.specs.Stock.{Trade, figures_of, staying}
 use Rattle.rules.specs.declared.Figures.{Figures}
 use Rattle.window.specs.Places.{trades, laid, Written, whole, survey_of, gone_of, rest_of, wiped}
 use Rattle.window.specs.declared.Change.{Change}
-use Rattle.window.specs.declared.Surveyed.{Surveyed}
 
 -- as many trades are read as are counted
 abbrev pub TradesCounted : Type 0
@@ -51,7 +50,7 @@ pub record Laws : Type 0 where
   pub gone_are_the_rest : GoneAreTheRest
   pub rest_of_a_window : RestOfAWindow
   -- two results that a promise of src/lib.rt allows agree
-  pub survey_determined : (clock count : ℕ) (times prices : List ℕ) → Determines (λ (r : Surveyed). r ≡ survey_of clock count times prices)
+  pub survey_determined : (clock count : ℕ) (times prices : List ℕ) → Determines (λ (r : Option Figures). r ≡ survey_of clock count times prices)
   pub gone_determined : (time count : ℕ) (times : List ℕ) → Determines (λ (r : ℕ). r ≡ gone_of time count times)
   pub rest_determined : (gone : ℕ) (f : Figures) (times prices : List ℕ) → Determines (λ (r : Figures). r ≡ rest_of gone f times prices)
   pub wipe_determined : (xs : List ℕ) → Determines (λ (ys : List ℕ). ys ≡ wiped xs)

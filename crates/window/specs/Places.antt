@@ -1,13 +1,12 @@
 -- The places of one stock and the window in them (document 01, "What the book holds"; of freed places, "States").
 -- Assumes nothing.
-use Rattle.std.specs.Prelude.{◌≡◌, ℕ, zero, suc, ◌+◌, ◌-◌, max, Bool, true, false, not, List, [], ◌∷◌, ◌++◌, map, length, take, drop, replicate, ◌==◌, nat_le, nat_lt, slice_index}
+use Rattle.std.specs.Prelude.{◌≡◌, ℕ, zero, suc, ◌+◌, ◌-◌, max, Bool, not, List, [], ◌∷◌, ◌++◌, map, length, take, drop, replicate, ◌==◌, nat_le, nat_lt, slice_index, Option, Some, None}
 use Rattle.forms.specs.Choice.{if◌then◌otherwise◌, all_of}
 use Rattle.rules.specs.Stock.{Trade, total, oldest, figures_of}
 use Rattle.rules.specs.Numbers.{bad_trades}
 use Rattle.rules.specs.declared.Figures.{Figures}
 use Rattle.window.specs.declared.Change.{Change}
 use Rattle.window.specs.declared.Change.TheVariants.{Stay, Join, Leave, Empty, Start}
-use Rattle.window.specs.declared.Surveyed.{Surveyed}
 
 -- ------------------------------------------------------------------ the window that places hold, and how it is written to them
 
@@ -53,12 +52,11 @@ whole count times prices = all_of ((length times == 512) ∷ (length prices == 5
 abbrev pub no_figures : Figures
 no_figures = record { count = 0; oldest = 0; sum = 0 }
 
--- the promise of `survey`: whether the held trades are whole and none is bad, with their figures
-unfoldable pub survey_of : ℕ → ℕ → List ℕ → List ℕ → Surveyed
+-- the promise of `survey`: the figures of the held trades, where these are whole and none is bad
+unfoldable pub survey_of : ℕ → ℕ → List ℕ → List ℕ → Option Figures
 survey_of clock count times prices =
     let w = trades count times prices in
-    if all_of (whole count times prices ∷ not (bad_trades clock w) ∷ []) then record { sound = true; figures = figures_of w } otherwise
-    record { sound = false; figures = no_figures }
+    if all_of (whole count times prices ∷ not (bad_trades clock w) ∷ []) then Some (figures_of w) otherwise None
 
 -- how many at the front of a list of times have left at `time`: each stays for 300,000
 unfoldable pub left_of : ℕ → List ℕ → ℕ

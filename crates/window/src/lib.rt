@@ -1,6 +1,8 @@
 // The five-minute window of trades, in a stock's part of the two lent arrays: its first `count` places of
-// each are the window, the oldest trade first. No public function has a `requires`: definitions of
-// specs/Places.antt give each its result for every input, and every place at exit.
+// each are the window, the oldest trade first. Times and prices stay two slices side by side: the form of the lent
+// arrays is fixed, two arrays of 32-bit numbers, and the C interface passes them. A count stands beside a slice, since
+// the lent record has it and may have any, and `write` also sets places behind the used ones. No public function has
+// a `requires`: definitions of specs/Places.antt give each its result for every input, and every place at exit.
 #![tactic(auto)]
 
 ghost use Rattle.std.specs.Prelude.{◌≡◌};
@@ -12,7 +14,7 @@ mod one;
 mod pass;
 
 // What a step does to the window.
-#[derive(Clone, Copy)]
+#[derive(Clone, Copy, PartialEq, Eq, Debug)]
 pub enum Change {
     Stay,
     Join { time: u32, price: u32 },
@@ -23,61 +25,43 @@ pub enum Change {
     Start { time: u32, price: u32 },
 }
 
-// The result of a survey; the figures are zeros where the trades are not sound.
-#[derive(Clone, Copy)]
-pub struct Surveyed {
-    pub sound: bool,
-    pub figures: Figures,
-}
-
-// Validates and sums the window, in one pass over the times and two, rarely three, over the prices: it is sound where
-// both parts have 512 places, at most 512 trades are held, and none is bad at the clock.
-pub fn survey(clock: u32, count: u64, times: &[u32], prices: &[u32]) -> Surveyed
+// Validates and sums the window, in one pass over the times and two, rarely three, over the prices: it gives the
+// figures where both parts have 512 places, at most 512 trades are held, and none is bad at the clock.
+pub fn survey(clock: u32, count: u64, times: &[u32], prices: &[u32]) -> Option<Figures>
     ensures { result ≡ survey_of clock count times.now prices.now }
 {
     let n = count as usize;
-    let none = Surveyed {
-        sound: false,
-        figures: Figures {
-            count: 0,
-            oldest: 0,
-            sum: 0,
-        },
-    };
     if times.len() != PLACES {
-        return none;
+        return None;
     }
     if prices.len() != PLACES {
-        return none;
+        return None;
     }
     if PLACES < n {
-        return none;
+        return None;
     }
-    let late = pass::bad_times(clock, n, times);
-    let wrong = pass::bad_prices(n, prices);
+    let times = &times[..n];
+    let prices = &prices[..n];
+    let late = pass::bad_times(clock, times);
+    let wrong = pass::bad_prices(prices);
     if late | wrong {
-        return none;
+        return None;
     }
-    let oldest = pass::at(0, n, times);
-    let sum = pass::sum(n, prices);
-    Surveyed {
-        sound: true,
-        figures: Figures {
-            count: count as u32,
-            oldest,
-            sum,
-        },
-    }
+    Some(Figures {
+        count: count as u32,
+        oldest: times.first().copied().unwrap_or(0),
+        sum: pass::sum(prices),
+    })
 }
 
-// How many of the oldest trades have left at a time; 0 where there are not `count` places.
+// How many of the oldest trades have left at a time; 0 and no Option where there are not `count` places, since
+// `window.gone_of` says 0.
 pub fn gone(time: u32, count: u32, times: &[u32]) -> u32
     ensures { result ≡ gone_of time count times.now }
 {
     let n = count as usize;
     if n <= times.len() {
-        let k = pass::gone_in(time, n, times);
-        return k as u32;
+        return pass::gone_in(time, &times[..n]) as u32;
     }
     0
 }
@@ -87,32 +71,28 @@ pub fn gone(time: u32, count: u32, times: &[u32]) -> u32
 pub fn rest(gone: u32, f: Figures, times: &[u32], prices: &[u32]) -> Figures
     ensures { result ≡ rest_of gone f times.now prices.now }
 {
-    let none = Figures {
-        count: 0,
-        oldest: 0,
-        sum: 0,
-    };
+    // zeros and no Option, since `window.rest_of` says so: of a window that no trade stays in they are the figures
+    let none = Figures::default();
     if times.len() != PLACES {
         return none;
     }
     if prices.len() != PLACES {
         return none;
     }
-    let count = f.count;
-    if MOST_TRADES < count {
+    if MOST_TRADES < f.count {
         return none;
     }
-    if count <= gone {
+    if f.count <= gone {
         return none;
     }
     let k = gone as usize;
-    let left = pass::sum(k, prices);
+    let left = pass::sum(&prices[..k]);
     if f.sum < left {
         return none;
     }
     Figures {
-        count: count - gone,
-        oldest: pass::at(k, count as usize, times),
+        count: f.count - gone,
+        oldest: times[k],
         sum: f.sum - left,
     }
 }
@@ -121,8 +101,9 @@ pub fn rest(gone: u32, f: Figures, times: &[u32], prices: &[u32]) -> Figures
 pub fn wipe(xs: &mut [u32])
     ensures { xs.new ≡ wiped xs.old }
 {
-    for i in 0..xs.len() {
-        xs[i] = 0;
+    // no `fill`: by it `sumpheron_setup` takes 16 bytes more of stack, which is over the limit of tests/stack
+    for x in xs {
+        *x = 0;
     }
 }
 

@@ -1,5 +1,6 @@
-// Operations on the places of one array, of which the first `n` are in use.
-ghost use Rattle.std.specs.Prelude.{◌≡◌, ◌+◌, ◌≤◌, [], ◌∷◌, ◌++◌, length, take, drop};
+// Operations on the places of one array, of which the first `n` are in use. The number stands beside the slice, since
+// `join` sets the place behind them, and each promises what the places behind hold (`window.placed`).
+ghost use Rattle.std.specs.Prelude.{◌≡◌, [], ◌∷◌, ◌++◌, take, drop};
 ghost use Rattle.window.specs.Places.{placed};
 
 // Puts `x` after the used places, if there is one more place.
@@ -11,38 +12,17 @@ pub(crate) fn join(xs: &mut [u32], n: usize, x: u32)
     }
 }
 
-// Copies `keep` places down by `gone`; all places from `keep` on keep their values.
-pub(crate) fn lower(xs: &mut [u32], gone: usize, keep: usize)
-    requires { gone + keep ≤ length xs.old }
-    ensures { xs.new ≡ take keep (drop gone xs.old) ++ drop keep xs.old }
-{
-    for i in 0..keep {
-        xs[i] = xs[gone + i];
-    }
-}
-
-// Moves the used places down over the first `gone`, and sets the freed ones to 0.
-pub(crate) fn slide(xs: &mut [u32], n: usize, gone: usize)
-    requires { (gone ≤ n) × (n ≤ length xs.old) }
-    ensures { xs.new ≡ placed n (drop gone (take n xs.old)) xs.old }
-{
-    let keep = n - gone;
-    lower(xs, gone, keep);
-    crate::wipe(&mut xs[keep..n]);
-}
-
-// Removes the first `gone`, or all where fewer are in use.
+// Removes the first `gone`, or all where fewer are in use: the others move down, and the freed places are set to 0.
 pub(crate) fn leave(xs: &mut [u32], n: usize, gone: usize)
     ensures { xs.new ≡ placed n (drop gone (take n xs.old)) xs.old }
 {
     if xs.len() < n {
         return;
     }
-    if n < gone {
-        slide(xs, n, n);
-        return;
-    }
-    slide(xs, n, gone);
+    let gone = gone.min(n);
+    let keep = n - gone;
+    xs.copy_within(gone..n, 0);
+    crate::wipe(&mut xs[keep..n]);
 }
 
 // Makes `x` the only one in use.

@@ -6,11 +6,11 @@ use Rattle.rules.specs.declared.Setup.{Setup}
 use Rattle.forms.proofs.Bools.{joined}
 use Rattle.judge.proofs.bad_setup.Goals as goal
 
-bad_setup_lem : (u : Setup) (close : Bool) → close ≡ not_price u.close
+bad_setup_lem : (u : Setup) (primary close : Bool) → primary ≡ ltb 15 u.primary → close ≡ not_price u.close
     → (eqb u.tier 0 || ltb 2 u.tier || eqb u.leverage 0 || ltb 3 u.leverage || (eqb u.tier 1 && ltb 1 u.leverage)
-    || ltb 15 u.primary || close) ≡ bad_setup u
+    || primary || close) ≡ bad_setup u
 unfolding bad_setup
-bad_setup_lem u close e = simp (e, joined)
+bad_setup_lem u primary close e f = simp (e, f, joined)
 
 pub returns : goal.returns
 returns c = search bad_setup_lem

@@ -1,16 +1,21 @@
 use Prim.Native.Nat.{ℕ, ◌≤◌, ◌<◌}
 use mathlib.Core.Bool.{Bool, true, false}
 use mathlib.Core.List.{List}
-use mathlib.Core.Path.{◌≡◌}
+use mathlib.Core.Path.{◌≡◌, refl}
 use borrow.Author.Tests.{lt-ltb, le-ltb}
 use lib.Dec.{ltb}
+use borrow.Author.Rules.{rules}
+use Rattle.std.specs.Prelude.{Result, Err, ⊤}
 use Rattle.forms.specs.Checks.{Check, first}
 use Rattle.forms.proofs.Checks.{hit, miss}
-use Rattle.forms.proofs.Choice.{eq_not, ne_not}
+use Rattle.forms.proofs.Choice.{ne_not}
 use Rattle.rules.specs.Messages.{kind, time_of, taken}
 use Rattle.rules.specs.Moments.{due_by}
 use Rattle.rules.specs.Numbers.{table_check, message_checks}
+use Rattle.rules.specs.Refusals.{number_of, refused_by}
 use Rattle.rules.specs.declared.Message.{Message}
+use Rattle.rules.specs.declared.Refusal.{Refusal}
+use Rattle.rules.proofs.Refusals.{not_done}
 use Rattle.rules.specs.declared.Moment.{Moment}
 use Rattle.forms.proofs.Bools.{refusals}
 use Rattle.judge.proofs.message_refusal.Goals as goal
@@ -27,12 +32,12 @@ module _ (m : Message) (time : ℕ) (e : time ≡ time_of m) where
   due earliest x b f q = rw (← e, ← f) q
 
 -- what the table's number decides
-module _ (m : Message) (row state number : ℕ) (checks : List Check) (e : row ≡ kind m) (f : number ≡ taken row state) where
-  by_table : (number ≡ 0 → ⊥) → number ≡ first (table_check (taken (kind m) state) checks)
-  by_table z = rw (← e, ← f) (hit _ number checks (ne_not number 0 z))
+module _ (m : Message) (row state : ℕ) (checks : List Check) (e : row ≡ kind m) where
+  by_table : (r : Result ⊤ Refusal) (why : Refusal) → r ≡ Err why → number_of why ≡ taken row state → refused_by r ≡ first (table_check (taken (kind m) state) checks)
+  by_table r why f g = rw (f, ← e, ← g) (hit _ (number_of why) checks (ne_not (number_of why) 0 (not_done why)))
 
-  past_table : (r : ℕ) → number ≡ 0 → r ≡ first checks → r ≡ first (table_check (taken (kind m) state) checks)
-  past_table r z q = rw (← e, ← f) (miss _ number r checks (eq_not number 0 z) q)
+  past_table : (r : ℕ) → 0 ≡ taken row state → r ≡ first checks → r ≡ first (table_check (taken (kind m) state) checks)
+  past_table r f q = rw (← e, ← f) (miss _ 0 r checks refl q)
 
 ruleset refused = (before, not_before, due, by_table, past_table, refusals)
 
@@ -52,10 +57,15 @@ pub returns-then-not_primary : goal.returns-then-not_primary
 unfolding message_checks
 returns-then-not_primary c = search refused depth 20
 
-pub returns-then-number-ne-DONE : goal.returns-then-number-ne-DONE
+pub returns-in_err-taken : goal.returns-in_err-taken
 unfolding message_checks
-returns-then-number-ne-DONE c = search refused depth 20
+returns-in_err-taken c =
+    let is : c.from_residual.result ≡ Err c.in_err-taken.field-0.0 = search rules in
+    let table : number_of c.in_err-taken.field-0.0 ≡ taken c.kind_of.result c.args.k.course.state = c.in_err-taken.ensures in
+    search refused depth 20
 
 pub returns : goal.returns
 unfolding message_checks
-returns c = search refused depth 20
+returns c =
+    let table : 0 ≡ taken c.kind_of.result c.args.k.course.state = c.in_ok-taken.ensures in
+    search refused depth 20

@@ -6,9 +6,9 @@ pub returns-then-not_time : goal.returns-then-not_time
 unfolding time_checks
 returns-then-not_time c = search refusals depth 20
 
-pub returns-then-is_due : goal.returns-then-is_due
+pub returns-then-not-is_due : goal.returns-then-not-is_due
 unfolding time_checks
-returns-then-is_due c = search refusals depth 20
+returns-then-not-is_due c = search refusals depth 20
 
 pub returns : goal.returns
 unfolding time_checks

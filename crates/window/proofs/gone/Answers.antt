@@ -5,7 +5,7 @@ use Rattle.window.proofs.Passes.{few_left}
 use Rattle.window.proofs.gone.Goals as goal
 
 pub overflow_cast-result : goal.overflow_cast-result
-overflow_cast-result c = let few : c.gone_in-k.result ≤ c.args.count = search few_left in omega arith
+overflow_cast-result c = let few : c.gone_in.result ≤ c.args.count = search few_left in omega arith
 
 pub returns-then-n-times : goal.returns-then-n-times
 unfolding gone_of

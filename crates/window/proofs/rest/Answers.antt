@@ -1,4 +1,4 @@
-use Rattle.std.proofs.Common.{◌≡◌, ℕ, ◌+◌, ◌-◌, ◌<◌, ◌≤◌, List, length, get_or, take, sym, ◌∙◌, arith}
+use Rattle.std.proofs.Common.{rules, get_or-take, ◌≡◌, ℕ, ◌+◌, ◌-◌, ◌<◌, ◌≤◌, List, length, get_or, take, sym, ◌∙◌, arith}
 use mathlib.Core.List.{foldl}
 use Rattle.forms.proofs.Choice.{tests, goes}
 use Rattle.rules.specs.Stock.{total}
@@ -16,32 +16,32 @@ module _ (k : ℕ) (f : Figures) (ts ps : List ℕ) (lt : length ts ≡ 512) (lp
   unfolding rest_of
   too_little l = let q = rw left at l in search tests
 
-  some_left : (o : ℕ) → s ≤ f.sum → o ≡ get_or (take f.count ts) k 0
+  some_left : (o : ℕ) → s ≤ f.sum → o ≡ get_or ts k 0
       → ◌≡◌ {A = Figures} (record { count = f.count - k; oldest = o; sum = f.sum - s }) (rest_of k f ts ps)
   unfolding rest_of
   some_left o l g =
       let q = rw left at l in
       let w = is_whole f.count ts ps lt lp h in
-      goes _ _ _ _ (search tests) (simp (left, g, oldest_rest k f.count ts ps (omega arith)))
+      goes _ _ _ _ (search tests) (simp (left, g, oldest_rest k f.count ts ps (omega arith), get_or-take f.count ts k 0 i))
 
 pub returns-then-times-ne-PLACES : goal.returns-then-times-ne-PLACES
 unfolding rest_of whole
-returns-then-times-ne-PLACES c = search tests
+returns-then-times-ne-PLACES c = search (tests, rules)
 
 pub returns-then-prices-ne-PLACES : goal.returns-then-prices-ne-PLACES
 unfolding rest_of whole
-returns-then-prices-ne-PLACES c = search tests
+returns-then-prices-ne-PLACES c = search (tests, rules)
 
-pub returns-then-count-gt-MOST_TRADES : goal.returns-then-count-gt-MOST_TRADES
+pub returns-then-f-gt-MOST_TRADES : goal.returns-then-f-gt-MOST_TRADES
 unfolding rest_of whole
-returns-then-count-gt-MOST_TRADES c = search tests
+returns-then-f-gt-MOST_TRADES c = search (tests, rules)
 
-pub returns-then-count-gone : goal.returns-then-count-gone
+pub returns-then-f-gone : goal.returns-then-f-gone
 unfolding rest_of
-returns-then-count-gone c = search tests
+returns-then-f-gone c = search (tests, rules)
 
 pub returns-then-f-left : goal.returns-then-f-left
-returns-then-f-left c = search too_little
+returns-then-f-left c = search (too_little, rules)
 
 pub returns : goal.returns
 returns c = search some_left

@@ -1,5 +1,5 @@
-use Rattle.calls.proofs.Setups.{setup_here}
+use Rattle.calls.proofs.Setups.{setup_first}
 use Rattle.calls.proofs.list.setup_of.Goals as goal
 
 pub returns : goal.returns
-returns c = search setup_here
+returns c = search setup_first

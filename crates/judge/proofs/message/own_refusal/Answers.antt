@@ -1,11 +1,7 @@
 use Prim.Native.Nat.{ℕ}
-use mathlib.Core.Bool.{Bool, not}
-use mathlib.Core.List.{[], ◌∷◌}
 use mathlib.Core.Path.{◌≡◌}
 use Rattle.forms.specs.Checks.{first}
-use Rattle.forms.specs.Checks.Check.{◌when◌}
-use Rattle.forms.proofs.Checks.{no_check}
-use Rattle.rules.specs.Quotes.{straddle}
+use Rattle.forms.proofs.Bools.{refusals}
 use Rattle.rules.specs.Numbers.{own_checks}
 use Rattle.rules.specs.declared.Message.{Message}
 use Rattle.rules.specs.declared.Message.TheVariants.{Trade}
@@ -24,30 +20,44 @@ of_trade : (time price held : ℕ) (k : Kept) (q : Quotes) (r : ℕ) → ((t : �
     → r ≡ first (own_checks (Trade time price) held (stock_of (fitted k) q))
 of_trade time price held k q r e = e time q
 
--- by what a call answered
-of_pause : (n : ℕ) (s : Stock) (b : Bool) (r : ℕ) → b ≡ straddle s → r ≡ first (n when not b ∷ []) → r ≡ first (n when not (straddle s) ∷ [])
-of_pause n s b r e q = rw (← e) q
+ruleset own = (by_letter, refusals)
 
 pub returns-in-Trade : goal.returns-in-Trade
 unfolding own_checks
 returns-in-Trade c = search (by_letter, of_trade)
 
-pub returns-in-Quote : goal.returns-in-Quote
-unfolding own_checks
-returns-in-Quote c = search (by_letter, no_check)
-
 pub returns-in-Opening : goal.returns-in-Opening
 unfolding own_checks
-returns-in-Opening c = search by_letter
+returns-in-Opening c = search own
 
 pub returns-in-Pause : goal.returns-in-Pause
 unfolding own_checks
-returns-in-Pause c = search (by_letter, of_pause)
+returns-in-Pause c = search own
 
 pub returns-in-Reopening : goal.returns-in-Reopening
 unfolding own_checks
-returns-in-Reopening c = search by_letter
+returns-in-Reopening c = search own
 
 pub returns-in-Closing : goal.returns-in-Closing
 unfolding own_checks
-returns-in-Closing c = search by_letter
+returns-in-Closing c = search own
+
+pub returns-in_default : goal.returns-in_default
+unfolding own_checks
+returns-in_default c = search own
+
+pub returns-in_default-2 : goal.returns-in_default-2
+unfolding own_checks
+returns-in_default-2 c = search own
+
+pub returns-in_default-3 : goal.returns-in_default-3
+unfolding own_checks
+returns-in_default-3 c = search own
+
+pub returns-in_default-4 : goal.returns-in_default-4
+unfolding own_checks
+returns-in_default-4 c = search own
+
+pub returns-in_default-5 : goal.returns-in_default-5
+unfolding own_checks
+returns-in_default-5 c = search own

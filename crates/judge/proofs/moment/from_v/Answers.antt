@@ -1,3 +1,4 @@
+use borrow.Author.Rules.{rules}
 use Prim.Native.Nat.{◌+◌}
 use mathlib.Core.Bool.{not, ◌&&◌}
 use mathlib.Core.Path.{◌≡◌}
@@ -11,15 +12,16 @@ use Rattle.quotes.specs.declared.Kept.{Kept}
 use Rattle.forms.proofs.Bools.{joined}
 use Rattle.judge.proofs.moment.from_v.Goals as goal
 
-last_three : (f : Figures) (k : Kept) (x y r : Moment)
+last_three : (f : Figures) (k : Kept) (none x y r : Moment)
+    → none ≡ no_moment
     → x ≡ sooner
     (mark_h at k.reference.start + 30_000
-    while ((leb 1 k.course.state && leb k.course.state 4) && not (eqb k.reference.hold 0))) no_moment
+    while ((leb 1 k.course.state && leb k.course.state 4) && not (eqb k.reference.hold 0))) none
     → y ≡ sooner (mark_f at 300_000 while (eqb k.course.state 0 && not (eqb k.course.early 0))) x
     → r ≡ sooner (mark_v at f.oldest + 300_000 while (leb k.course.state 4 && not (eqb f.count 0))) y
     → r ≡ earliest (drop 6 (moment_table f (bare k)))
 unfolding earliest moment_table
-last_three f k x y r ex ey er = simp (er, ey, ex, joined)
+last_three f k none x y r e ex ey er = simp (er, ey, ex, e, joined)
 
 pub returns : goal.returns
-returns c = search last_three
+returns c = let none : c.default.result ≡ no_moment = search rules in search last_three

@@ -1,38 +1,30 @@
+use borrow.Author.Rules.{rules}
 use native.Mathlib.Omega.{arith}
-use Prim.Native.Nat.{ℕ, ◌+◌, ◌≤◌, ◌<◌}
+use Prim.Native.Nat.{ℕ, ◌≤◌}
 use mathlib.Core.Bool.{false}
-use mathlib.Core.List.{List, foldl}
-use mathlib.Core.Path.{◌≡◌, refl, sym}
+use mathlib.Core.List.{List, [], ◌∷◌, foldl}
+use mathlib.Core.Path.{◌≡◌, refl}
 use borrow.Author.Tests.{le-ltb}
 use lib.Bits.{bit_or}
-use lib.ListN.{length, get_or, drop}
+use Rattle.std.specs.List.{fold}
 use Rattle.forms.specs.Choice.{if◌then◌otherwise◌}
 use Rattle.forms.proofs.Bits.{or_left, or_right}
-use Rattle.forms.proofs.Loops.{fold_turn, fold_end}
 use Rattle.rules.specs.Numbers.{or_not_side}
 use Rattle.judge.proofs.range.bits_of.Goals as goal
 
 -- a side in range is not bad
-fine : (side : ℕ) → side ≤ 999_999_999 → false ≡ or_not_side false side
+fine : (side : ℕ) → side ≤ 999_999_999 → or_not_side false side ≡ false
 unfolding or_not_side if◌then◌otherwise◌
-fine side h = sym (le-ltb 999_999_999 side h)
+fine side h = le-ltb 999_999_999 side h
 
-module _ (sides : List ℕ) (i bits : ℕ) (m : length sides ≡ 16)
-    (so_far : bits ≤ 999_999_999 → foldl or_not_side false sides ≡ foldl or_not_side false (drop i sides)) where
-  turn : i < 16 → bit_or bits (get_or sides i 0) ≤ 999_999_999 → foldl or_not_side false sides ≡ foldl or_not_side false (drop (i + 1) sides)
-  turn h l =
-      let side : get_or sides i 0 ≤ 999_999_999 = omega (arith, or_right bits (get_or sides i 0)) in
-      let before : bits ≤ 999_999_999 = omega (arith, or_left bits (get_or sides i 0)) in
-      sym (fold_turn or_not_side sides 0 false false _ 16 i m h (fine _ side) (sym (so_far before)))
-
-  done : 16 ≤ i → bits ≤ 999_999_999 → foldl or_not_side false sides ≡ false
-  done h l = sym (fold_end or_not_side sides false _ 16 i m h (sym (so_far l)))
-
-pub loop-i-init : goal.loop-i-init
-loop-i-init c = (omega arith, λ l. refl)
-
-pub loop-i-preserved : goal.loop-i-preserved
-loop-i-preserved c = (omega arith, search turn)
+-- the OR is at least each of its parts
+all_fine : (sides : List ℕ) (bits : ℕ) → fold bit_or bits sides ≤ 999_999_999 → (bits ≤ 999_999_999) × (foldl or_not_side false sides ≡ false)
+all_fine [] bits h = (h, refl)
+all_fine (side ∷ sides) bits h =
+    let rest = all_fine sides (bit_or bits side) h in
+    (omega (arith, rest.0, or_left bits side), rw (fine side (omega (arith, rest.0, or_right bits side))) rest.1)
 
 pub returns : goal.returns
-returns c = search done
+returns c h =
+    let bits : c.fold.result ≡ fold bit_or 0 c.args.sides = search rules in
+    (all_fine c.args.sides 0 (rw bits at h)).1

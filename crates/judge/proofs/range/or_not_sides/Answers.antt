@@ -1,12 +1,11 @@
-use native.Mathlib.Omega.{arith}
-use Prim.Native.Nat.{ℕ, ◌+◌, ◌<◌}
+use Prim.Native.Nat.{ℕ}
+use borrow.Author.Rules.{rules}
 use mathlib.Core.Bool.{Bool, true, false, ◌||◌}
-use mathlib.Core.List.{List, foldl}
-use mathlib.Core.Path.{◌≡◌, refl}
+use mathlib.Core.List.{List, [], ◌∷◌, ◌++◌, foldl}
+use mathlib.Core.Path.{◌≡◌, refl, subst}
 use lib.Dec.{ltb}
-use lib.ListN.{length, get_or, drop}
+use Rattle.std.proofs.lemmas.Fn.{fold_over, slice_gives, fronts}
 use Rattle.forms.specs.Choice.{if◌then◌otherwise◌}
-use Rattle.forms.proofs.Loops.{fold_turn, fold_end}
 use Rattle.rules.specs.Numbers.{or_not_side}
 use Rattle.judge.proofs.range.or_not_sides.Goals as goal
 
@@ -15,15 +14,13 @@ unfolding or_not_side if◌then◌otherwise◌
 one_more true side = refl
 one_more false side = refl
 
-turn : (sides : List ℕ) (i : ℕ) (any w : Bool) → length sides ≡ 16 → i < 16 → foldl or_not_side any (drop i sides) ≡ w
-    → foldl or_not_side (any || ltb 999_999_999 (get_or sides i 0)) (drop (i + 1) sides) ≡ w
-turn sides i any w m h q = fold_turn or_not_side sides 0 any _ w 16 i m h (one_more any (get_or sides i 0)) q
-
-pub loop-i-init : goal.loop-i-init
-loop-i-init c = (omega arith, refl)
-
-pub loop-i-preserved : goal.loop-i-preserved
-loop-i-preserved c = (omega arith, search turn)
+-- one side more at the end
+turn : (bad : Bool) (sides : List ℕ) (side : ℕ) (any r : Bool) → any ≡ foldl or_not_side bad sides → r ≡ (any || ltb 999_999_999 side)
+    → r ≡ foldl or_not_side bad (sides ++ (side ∷ []))
+turn bad [] side any r e f = rw (f, e) (one_more bad side)
+turn bad (first ∷ sides) side any r e f = turn (or_not_side bad first) sides side any r e f
 
 pub returns : goal.returns
-returns c = search fold_end
+returns c = subst (λ sides. c.fold.result ≡ foldl or_not_side c.args.bad sides) c.iter.ensures.rest
+    (fold_over fronts (λ y. y.now) _ (λ sides any. any ≡ foldl or_not_side c.args.bad sides) _ (λ sides any side r f k call. (turn c.args.bad sides side.now any r k (search rules), search rules))
+    _ _ _ _ (slice_gives c.iter.result) refl c.fold.ensures.ran)

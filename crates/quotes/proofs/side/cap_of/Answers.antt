@@ -1,8 +1,7 @@
-use Rattle.forms.proofs.Choice.{arms}
+use borrow.Author.Rules.{rules}
+use Rattle.forms.specs.Choice.{if◌then◌otherwise◌}
 use Rattle.quotes.proofs.side.cap_of.Goals as goal
 
-pub returns-then-on : goal.returns-then-on
-returns-then-on c = search arms
-
 pub returns : goal.returns
-returns c = search arms
+unfolding if◌then◌otherwise◌
+returns c = search rules

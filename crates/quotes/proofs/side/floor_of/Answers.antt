@@ -1,12 +1,7 @@
-use native.Mathlib.Omega.{arith}
-use Rattle.forms.proofs.Choice.{arms, goes}
+use borrow.Author.Rules.{rules}
+use Rattle.forms.specs.Choice.{if◌then◌otherwise◌}
 use Rattle.quotes.proofs.side.floor_of.Goals as goal
 
-pub returns-then-lower-eq0 : goal.returns-then-lower-eq0
-returns-then-lower-eq0 c = goes _ _ _ _ (search arms) (omega arith)
-
-pub returns-then-on : goal.returns-then-on
-returns-then-on c = search arms
-
 pub returns : goal.returns
-returns c = search arms
+unfolding if◌then◌otherwise◌
+returns c = search rules

@@ -6,6 +6,6 @@ pub returns-then-b-eq-LIMIT : goal.returns-then-b-eq-LIMIT
 unfolding k_time
 returns-then-b-eq-LIMIT c = search tests
 
-pub returns : goal.returns
+pub returns-else-b-eq-LIMIT : goal.returns-else-b-eq-LIMIT
 unfolding k_time
-returns c = search tests
+returns-else-b-eq-LIMIT c = search tests

@@ -1,18 +1,14 @@
-use borrow.Author.Rules.{rules}
 use Rattle.stock.proofs.Changes.{change_v, change_z, change_c, change_none}
 use Rattle.stock.proofs.steps.change_at.Goals as goal
 
-pub gone-gone-requires : goal.gone-gone-requires
-gone-gone-requires c = search rules
+pub returns-in-118 : goal.returns-in-118
+returns-in-118 c = search change_v
 
-pub returns-then-mark-eq-MARK_V : goal.returns-then-mark-eq-MARK_V
-returns-then-mark-eq-MARK_V c = search change_v
+pub returns-in-122 : goal.returns-in-122
+returns-in-122 c = search change_z
 
-pub returns-then-mark-eq-MARK_Z : goal.returns-then-mark-eq-MARK_Z
-returns-then-mark-eq-MARK_Z c = search change_z
+pub returns-in-99 : goal.returns-in-99
+returns-in-99 c = search change_c
 
-pub returns-then-mark-eq-MARK_C : goal.returns-then-mark-eq-MARK_C
-returns-then-mark-eq-MARK_C c = search change_c
-
-pub returns : goal.returns
-returns c = search change_none
+pub returns-in_default : goal.returns-in_default
+returns-in_default c = search change_none

@@ -36,7 +36,7 @@ pub returns-in-Leave : goal.returns-in-Leave
 returns-in-Leave c = search left
 
 pub returns-in-Empty : goal.returns-in-Empty
-returns-in-Empty c = search emptied
+returns-in-Empty c = emptied _ _ _ c.args.w.held _ _ c.in-Empty.is c.default.ensures.0 c.default.ensures.1.0 c.default.ensures.1.1
 
 pub returns-in-Start : goal.returns-in-Start
 returns-in-Start c = search started

@@ -1,10 +1,5 @@
-use native.Mathlib.Omega.{arith}
-use lib.ListN.{length-set}
 use Rattle.tape.proofs.Printing.{line_to, line_out}
 use Rattle.tape.proofs.put.line.Goals as goal
-
-pub shape_of-out : goal.shape_of-out
-shape_of-out c = simp length-set (omega arith)
 
 pub returns-clause-value : goal.returns-clause-value
 returns-clause-value c = search line_to

@@ -1,21 +1,15 @@
-use Rattle.std.proofs.Common.{sym, refl, zero-add, arith}
-use Rattle.window.proofs.Passes.{stays, leaves, all_left}
+use Rattle.std.proofs.Common.{rules, ◌∙◌, leb, ◌+◌}
+use borrow.Author.Tests.{tests}
+use Rattle.std.proofs.lemmas.Iterator.{YieldsList-from_slice}
+use Rattle.std.proofs.lemmas.Iterator.Consumers.{count_from_yields_List}
+use Rattle.std.proofs.lemmas.Iterator.Search.{YieldsList-from_take_while}
+use Rattle.std.proofs.lemmas.List.Folds.{length-prefix_len}
+use Rattle.window.proofs.Passes.{left_is}
 use Rattle.window.proofs.pass.gone_in.Goals as goal
 
-pub loop-k-init : goal.loop-k-init
-loop-k-init c = (omega arith, refl, sym (zero-add _))
-
-pub overflow_cast-u : goal.overflow_cast-u
-overflow_cast-u c = omega (arith, c.shared_slice_known-1.given c.loop-k.k)
-
-pub overflow_add-u : goal.overflow_add-u
-overflow_add-u c = omega (arith, c.shared_slice_known-1.given c.loop-k.k)
-
-pub returns-then-t-u : goal.returns-then-t-u
-returns-then-t-u c = search stays
-
-pub loop-k-preserved : goal.loop-k-preserved
-loop-k-preserved c = (omega arith, omega arith, search leaves)
-
 pub returns : goal.returns
-returns c = search all_left
+returns c =
+    let t = c.args.time in
+    let us = c.args.times.now in
+    count_from_yields_List c.take_while.result _ c.count.ensures.ran (YieldsList-from_take_while _ (λ u. leb (u + 300_000) t) (YieldsList-from_slice us cc) c.take_while.ensures.closure c.take_while.ensures.done (λ x b q k. search (rules, tests)))
+    ∙ length-prefix_len (λ u. leb (u + 300_000) t) us ∙ left_is t us
