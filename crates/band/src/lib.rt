@@ -94,7 +94,7 @@ fn to_cent(x: u64, count: u64) -> u64
     (x + 5_000 * count) / (10_000 * count) * 100
 }
 
-// The difference, or 0 where y is the greater.
+// The difference, or 0 where y is the greater; public, so that judge calls it by its promise.
 pub fn minus(x: u64, y: u64) -> u64
     ensures { result ≡ minus_of x y }
 {
@@ -140,6 +140,7 @@ impl Fitted {
     {
         let m = self.mean;
         if m.count == 0 {
+            // the least bands, and no default
             return Bands {
                 lower: 0,
                 upper: CENT,

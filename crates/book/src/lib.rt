@@ -1,6 +1,7 @@
 // The book: the caller lends an array of stock records and two arrays, trade times and trade prices, in which each
 // stock owns 512 places. `step_one` takes one record with its part of both arrays instead. No public function has a
-// `requires`: for any bytes the promise gives the answer and every byte that the call leaves.
+// `requires`: for any bytes the promise gives the answer and every byte that the call leaves. Times and prices stay two
+// slices, as in window.
 #![tactic(auto)]
 
 ghost use Rattle.std.specs.Prelude.{◌≡◌};

@@ -21,7 +21,8 @@ use stock::{Asked, Handed, Record, Reply, Step};
 mod list;
 mod shape;
 
-// Why the first checks of a call refuse it: they check the shape of the book, then the number of the stock.
+// Why the first checks of a call refuse it: they check the shape of the book, then the number of the stock. The three
+// lengths stay arguments, as docs/PROMISES.md has its promise.
 pub fn call_refusal(stocks: usize, times: usize, prices: usize, i: usize) -> Result<(), Refusal>
     ensures { refused_by result ≡ first (call_checks stocks times prices i) }
 {

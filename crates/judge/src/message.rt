@@ -15,7 +15,7 @@ use rules::{
     FIRST_FIVE, FLAG_NON_EXECUTABLE, HIGHEST_PRICE, Message, Quotes, Refusal, SHORTEST_PAUSE,
 };
 
-// The message's row of the table: a number, since document 01 names the form of the table.
+// The message's row of the table: a number, since document 01 names the form of the table (docs/RULES.md, the 36 entries).
 pub(crate) fn kind_of(m: Message) -> usize
     ensures { (result ≡ kind m) × (result < 6) }
 {

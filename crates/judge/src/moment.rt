@@ -16,8 +16,8 @@ const AT_W: u64 = band::DOUBLED_UNTIL as u64;
 
 const AT_F: u64 = FIRST_FIVE as u64;
 
-// The earlier of a row and what the rows after it give; of two at one time the row. `comes` is a flag beside the row and
-// no Option, since a row of `rules.moment_table` has it and its time is computed whether it comes or not, without a branch.
+// The earlier of a row and what the rows after it give; of two at one time the row. The mark is a number, as in
+// `rules::Moment`. `comes` makes no Option of the row: a row of `rules.moment_table` has it, and it would be taken apart at once.
 fn sooner(mark: u32, time: u64, comes: bool, after: Moment) -> Moment
     ensures { result ≡ moments.sooner (mark at time while comes) after }
 {

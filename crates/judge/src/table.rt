@@ -5,7 +5,7 @@ ghost use Rattle.rules.specs.Refusals.{refused_by};
 
 use rules::{DONE, Refusal};
 
-// The entries of the table, numbers in bytes, since document 01 names that form.
+// The entries of the table: numbers, since document 01 names that form (docs/RULES.md, the 36 entries).
 const TAKEN: u8 = DONE as u8;
 
 const WRONG: u8 = Refusal::WrongState as u8;

@@ -31,6 +31,7 @@ pub struct Basis {
     pub leverage: u32,
     pub close: u32,
     pub end: u32,
+    // a number: a lent record may hold any
     pub state: u32,
     pub clock: u32,
     pub entry: u32,

@@ -1,6 +1,6 @@
 // A book of at most eight stocks with records of its own, so that a program can keep it in a local variable; the
 // first records, as many as it has stocks, are the book. No function has a `requires`: where it has over eight
-// stocks, the answer is number 1 and nothing changes.
+// stocks, the answer is number 1 and nothing changes. Times and prices stay two slices, as in window.
 #![tactic(auto)]
 
 ghost use Rattle.std.specs.Prelude.{◌≡◌};

@@ -74,8 +74,8 @@ pub(crate) fn turned(t: Turn, q: Quotes) -> After
     }
 }
 
-// The stock after a turn that may end Limit. Its last lines are those of `turned`, which is not called: such a function
-// with two call sites was not inlined, and a quote took 1.36 of the second program, not 0.86 (docs/DECISIONS.md).
+// The stock after a turn that may end Limit. Its last lines are those of `turned`: a function for both, given the quotes,
+// took settling to 1,607 bytes of stack, over the limit of tests/stack.
 pub(crate) fn left(t: Turn, f: Held, q: Quotes) -> After
     ensures { result ≡ after_of (left_to t f.figures q) }
 {

@@ -35,7 +35,8 @@ pub(crate) fn with_shown(number: u32, k: Kept, s: Shown) -> Answer
     }
 }
 
-// A number with what the stock shows, or with zeros for 1, 2 and 3. Only with 1 can the reference be out of range.
+// A number with what the stock shows, or with zeros for 1, 2 and 3. Only with 1 can the reference be out of range. It is a
+// number and no Refusal, since `rules.answer` takes one, and a reading has number 0.
 pub(crate) fn answer_of(number: u32, k: Kept, q: Quotes) -> Answer
     requires { ¬ (number ≡ 1) → IsReference k.reference.price }
     ensures { result ≡ answer number (stock_of k q) }

@@ -1,7 +1,7 @@
 // One stock's record by value, with its two lent parts of 512 places. Every call first validates the record and its
 // held trades; it computes a step without writing a place, and writes the places at the end. No public function has
 // a `requires`: for any record, parts of any length and any numbers the promise gives the answer, the next record
-// and every place.
+// and every place. Times and prices stay two slices, as in window.
 #![tactic(auto)]
 
 ghost use Rattle.std.specs.Prelude.{◌≡◌, ℕ};
@@ -64,7 +64,7 @@ pub trait Step: Copy {
     fn step(self, r: Record, times: &mut [u32], prices: &mut [u32]) -> Handed<Self::Given>
         ensures { Leaves (made (rule self) Self.Given.beside (bytes r times.old prices.old)) result times.new prices.new };
 
-    // The number of an answer.
+    // The number of an answer, as C gets it.
     fn number(answer: Self::Given) -> u32
         ensures { result ≡ number_of answer };
 

@@ -14,8 +14,8 @@ pub struct Sight {
     pub earliest: Moment,
 }
 
-// Judges a stock with its places; whether its totals are wrong is given as a bool, as totals::is_wrong says it, so that
-// no totals are copied for it.
+// Judges a stock with its places. Whether its totals are wrong is a bool, as `totals::is_wrong` gives it: no value stands
+// beside it, and nothing else of the totals is asked for.
 pub(crate) fn see(
     wrong: bool,
     count: u64,

@@ -34,6 +34,7 @@ pub struct Effect {
 fn change_of(m: Message) -> Change
     ensures { result ≡ change_of m }
 {
+    // an arm for each message: of joined arms the check left a goal open
     match m {
         Message::Trade { time, price } => Change::Join { time, price },
         Message::Quote { .. } => Change::Stay,
@@ -44,7 +45,7 @@ fn change_of(m: Message) -> Change
     }
 }
 
-// What a moment does to the window.
+// What a moment does to the window; the mark is a number, since `states::after_moment` promises what any gives.
 fn change_at(mark: u32, time: u32, count: u32, times: &[u32]) -> Change
     ensures { result ≡ change_at mark time count times.now }
 {

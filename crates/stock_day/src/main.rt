@@ -27,7 +27,7 @@ impl Single {
     }
 }
 
-// Plays by the methods of the record.
+// Plays by the methods of the record. This program tests both, so they stand side by side, here and where it is lent.
 #[derive(Drop)]
 struct ByValue(Single);
 

@@ -62,6 +62,7 @@ pub(crate) trait Player {
 
     // Settles a stock to a time, and prints each moment.
     fn play_to(&mut self, rt: &impl Print, stock: u32, time: u32) -> io::Result<()> {
+        // a bound and no index: no contract says that a stock's moments end
         for _ in 0..MOST_MOMENTS {
             let notice = self.settle(stock, time);
             if notice.answer.number != DONE {

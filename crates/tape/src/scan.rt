@@ -84,6 +84,7 @@ impl Scan {
 pub(crate) fn over(bytes: &[u8]) -> Option<Reading>
     ensures { result ≡ foldl turn (Some begun) bytes.now }
 {
+    // no default: the letter is a field of one byte
     let mut scan = Scan {
         count: 0,
         digits: 1,
@@ -99,7 +100,8 @@ pub(crate) fn over(bytes: &[u8]) -> Option<Reading>
     Some(Reading { scan, numbers })
 }
 
-// How many numbers follow a letter, if a line begins with it; one arm for each letter, as `tape.table` has one row for each.
+// How many numbers follow a letter, if a line begins with it. Each letter has an arm, as it has a row in `tape.table`: with
+// joined arms four goals stayed open.
 pub(crate) fn numbers_after(letter: u8) -> Option<usize>
     ensures { result ≡ wanted letter }
 {
