@@ -94,7 +94,7 @@ fn to_cent(x: u64, count: u64) -> u64
     (x + 5_000 * count) / (10_000 * count) * 100
 }
 
-// The difference, or 0 where y is the greater; public, so that judge calls it by its promise.
+// The difference, or 0 where y is the greater; public, since judge takes differences too.
 pub fn minus(x: u64, y: u64) -> u64
     ensures { result ≡ minus_of x y }
 {
@@ -148,7 +148,7 @@ impl Fitted {
         }
         let a = self.spread(percent, k);
         let r = 100 * m.sum;
-        let lower = to_cent(r.saturating_sub(a), m.count);
+        let lower = to_cent(minus(r, a), m.count);
         let upper = to_cent(r + a, m.count);
         Bands {
             lower,

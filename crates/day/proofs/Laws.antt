@@ -123,13 +123,13 @@ line_found bytes text rest from to letter words r p d l sees =
     f.1.0 ∙ ap (λ (s : Seen). Some s) (same_seen f.0 _ _ e n)
 
 line_taken : LineTaken
-line_taken line next f = (refl, (refl, (refl, (refl, (refl, refl)))))
+line_taken line next f = (refl, (refl, (refl, (refl, (refl, (refl, refl))))))
 
 none_taken : NoneTaken
 none_taken f = (refl, refl)
 
 flushes : Flushes
-flushes f = (refl, (refl, (refl, (refl, refl))))
+flushes live f = (refl, (refl, (refl, (refl, (refl, refl)))))
 
 lowers : (bytes : List ℕ) (gone keep : ℕ) → gone + keep ≤ length bytes → Lowers bytes (lowered bytes gone keep) gone keep
 lowers bytes gone keep h = record { kept_first = λ j l. grind (arith, common_steps); others_stay = λ j l. grind (arith, common_steps); as_long = grind (arith, common_steps) }
@@ -160,10 +160,10 @@ no_other numbers letter n = simp (
 )
 
 at_message_lem : AtMessage
-at_message_lem letter stock time last left rest m f = (refl, (refl, (refl, refl)))
+at_message_lem letter stock time last left rest m f = (if_true f.live _ None, (if_false f.live _ None, (refl, (refl, refl))))
 
 same_message : SameMessage
-same_message d f = (refl, (refl, (refl, refl)))
+same_message d f = (if_true f.live _ None, (if_false f.live _ None, (refl, (refl, refl))))
 
 ended : Ended
 ended last f = (refl, (refl, (refl, refl)))

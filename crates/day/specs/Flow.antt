@@ -1,6 +1,7 @@
 -- What is found in the input's block, and what becomes of the blocks and of the day.
 -- Assumes nothing.
-use Rattle.std.specs.Prelude.{ℕ, ◌+◌, ◌-◌, ◌≤◌, ◌<◌, min, List, ◌++◌, ◌≡◌, take, drop, Option, Some, None, MatchOption}
+use Rattle.std.specs.Prelude.{ℕ, ◌+◌, ◌-◌, ◌≤◌, ◌<◌, min, Bool, List, ◌++◌, ◌≡◌, take, drop, Option, Some, None, MatchOption}
+use Rattle.forms.specs.Choice.{if◌then◌otherwise◌}
 use Rattle.tape.specs.declared.Line.{Line}
 use Rattle.tape.specs.Lines.{unread, Reads, to_feed}
 use Rattle.day.specs.Blocks.{Blocks}
@@ -27,15 +28,15 @@ lowered bytes gone keep = take keep (drop gone bytes) ++ drop keep bytes
 
 -- the blocks with the unread bytes moved to the front
 abbrev pub lowered_flow : Blocks → Blocks
-lowered_flow f = record { input = lowered f.input f.from (f.to - f.from); from = 0; to = f.to - f.from; output = f.output; at = f.at }
+lowered_flow f = record { input = lowered f.input f.from (f.to - f.from); from = 0; to = f.to - f.from; output = f.output; at = f.at; live = f.live }
 
--- the blocks with so many bytes still to be written
-abbrev pub with_at : ℕ → Blocks → Blocks
-with_at at f = record { input = f.input; from = f.from; to = f.to; output = f.output; at = at }
+-- the blocks with so many bytes still to be written, and whether the output has taken all that was written
+abbrev pub written : ℕ → Bool → Blocks → Blocks
+written at live f = record { input = f.input; from = f.from; to = f.to; output = f.output; at = at; live = live }
 
--- the blocks after the pending output was written
-abbrev pub flushed : Blocks → Blocks
-flushed f = with_at 0 f
+-- the blocks after the pending output was written, or refused
+abbrev pub flushed : Bool → Blocks → Blocks
+flushed live f = written 0 live f
 
 -- what taking a line gives
 pub record Taken : Type 0 where
@@ -44,7 +45,7 @@ pub record Taken : Type 0 where
 
 -- a line that was found, and the blocks after it
 abbrev pub found_of : Option Line → ℕ → Blocks → Taken
-found_of line next f = record { line = line; flow = record { input = f.input; from = next; to = f.to; output = f.output; at = f.at } }
+found_of line next f = record { line = line; flow = record { input = f.input; from = next; to = f.to; output = f.output; at = f.at; live = f.live } }
 
 -- the result where no line was found
 abbrev pub missing_of : Blocks → Taken
@@ -55,6 +56,6 @@ abbrev pub taken_of : Option Seen → Blocks → Taken
 taken_of None f = missing_of f
 taken_of (Some s) f = found_of s.line s.next f
 
--- the same day with another flow
+-- the same day with another flow: it goes on while the output takes what is written
 abbrev pub with_flow : Progress → Blocks → Progress
-with_flow d flow = record { flow = flow; next = d.next; last = d.last; left = d.left }
+with_flow d flow = record { flow = flow; next = (if flow.live then d.next otherwise None); last = d.last; left = d.left }

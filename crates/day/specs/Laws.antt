@@ -1,6 +1,6 @@
 -- What the day program's lines obey (document 01, "The day program"). Each field is a theorem: `laws` of proofs/Laws.antt proves the record.
 -- Assumes nothing.
-use Rattle.std.specs.Prelude.{ℕ, ◌+◌, ◌*◌, ◌≤◌, ◌<◌, true, List, [], ◌∷◌, ◌++◌, ◌↔◌, ◌≡◌, length, get_or, drop, Option, Some, None, IsSome}
+use Rattle.std.specs.Prelude.{ℕ, ◌+◌, ◌*◌, ◌≤◌, ◌<◌, Bool, true, false, List, [], ◌∷◌, ◌++◌, ◌↔◌, ◌≡◌, length, get_or, drop, Option, Some, None, IsSome}
 use Rattle.std.proofs.lemmas.List.Edits.{sets}
 use Rattle.forms.specs.Words.{◌or◌, ◌and◌, IsOneOf}
 use Rattle.rules.specs.Words.{IsEnd, IsSetup}
@@ -43,14 +43,16 @@ LineFound = (bytes text rest : List ℕ) (from to letter : ℕ) (words : List (L
 abbrev pub LineTaken : Type 0
 LineTaken = (line : Option Line) (next : ℕ) (f : Blocks) → let t = found_of line next f in
     t.line ≡ line and t.flow.from ≡ next and t.flow.to ≡ f.to and t.flow.at ≡ f.at and t.flow.input ≡ f.input and t.flow.output ≡ f.output
+    and t.flow.live ≡ f.live
 
 -- where no line was found, there is none in the result, and nothing changes
 abbrev pub NoneTaken : Type 0
 NoneTaken = (f : Blocks) → (missing_of f).line ≡ None and (missing_of f).flow ≡ f
 
--- after a flush nothing is left to be written, and everything else stays
+-- after a flush nothing is left to be written, also where the output refuses it, and everything else stays
 abbrev pub Flushes : Type 0
-Flushes = (f : Blocks) → let g = flushed f in g.at ≡ 0 and g.from ≡ f.from and g.to ≡ f.to and g.input ≡ f.input and g.output ≡ f.output
+Flushes = (live : Bool) (f : Blocks) → let g = flushed live f in
+    g.at ≡ 0 and g.from ≡ f.from and g.to ≡ f.to and g.input ≡ f.input and g.output ≡ f.output and g.live ≡ live
 
 -- the bytes kept are those from a place on, in their order, and every other byte stays where it was
 pub record Lowers (bytes after : List ℕ) (gone keep : ℕ) : Type 0 where
@@ -74,15 +76,17 @@ pub record Messages (stock time : ℕ) (rest : List ℕ) : Type 0 where
 abbrev pub NoOther : Type 0
 NoOther = (numbers : List ℕ) (letter : ℕ) → ¬ IsOneOf letter (84 ∷ 81 ∷ 79 ∷ 80 ∷ 82 ∷ 88 ∷ []) → spoken_of numbers letter ≡ None
 
--- the letter, the stock, the time and the message with which the day goes on, and what is left of it
+-- the letter, the stock, the time and the message with which the day goes on, while the output takes what is written, and what is left of it
 abbrev pub AtMessage : Type 0
 AtMessage = (letter stock time last left : ℕ) (rest : List ℕ) (m : Message) (f : Blocks)
     → let d = day_at (record { letter = letter; numbers = stock ∷ time ∷ rest }) m last left f in
-    d.next ≡ Some (record { letter = letter; stock = stock; time = time; message = m }) and d.last ≡ last and d.left ≡ left and d.flow ≡ f
+    (f.live ≡ true → d.next ≡ Some (record { letter = letter; stock = stock; time = time; message = m })) and (f.live ≡ false → d.next ≡ None)
+    and d.last ≡ last and d.left ≡ left and d.flow ≡ f
 
--- after the line of a moment the day goes on with the same message, with its letter, stock and time
+-- after the line of a moment the day goes on with the same message, with its letter, stock and time, while the output takes what is written
 abbrev pub SameMessage : Type 0
-SameMessage = (d : Progress) (f : Blocks) → let e = with_flow d f in e.next ≡ d.next and e.last ≡ d.last and e.left ≡ d.left and e.flow ≡ f
+SameMessage = (d : Progress) (f : Blocks) → let e = with_flow d f in
+    (f.live ≡ true → e.next ≡ d.next) and (f.live ≡ false → e.next ≡ None) and e.last ≡ d.last and e.left ≡ d.left and e.flow ≡ f
 
 -- a day that has ended does not go on, and no message is left
 abbrev pub Ended : Type 0

@@ -7,6 +7,7 @@ use Rattle.rules.specs.declared.Message.TheVariants.{Trade, Quote, Opening, Paus
 use Rattle.tape.specs.declared.Line.{Line}
 use Rattle.day.specs.Blocks.{Blocks}
 use Rattle.day.specs.Progress.{Progress}
+use Rattle.day.specs.declared.Call.{Call}
 
 -- the message of a line, by its numbers (stock, time, and then the letter's own) and the code of its letter, in this order: T, Q, O, P, R, X; any
 -- other letter begins no message
@@ -22,10 +23,11 @@ spoken_of numbers letter =
     if eqb letter 82 then Some (Reopening time third fourth) otherwise
     if eqb letter 88 then Some (Closing time third fourth) otherwise None
 
--- the day at a line that says a message: "letter, stock, time"
+-- the day at a line that says a message: "letter, stock, time"; it goes on while the output takes what is written
 abbrev pub day_at : Line → Message → ℕ → ℕ → Blocks → Progress
 day_at line message last left flow =
-    record { flow = flow; next = Some (record { letter = line.letter; stock = get_or line.numbers 0 0; time = get_or line.numbers 1 0; message = message }); last = last; left = left }
+    let call : Call = record { letter = line.letter; stock = get_or line.numbers 0 0; time = get_or line.numbers 1 0; message = message } in
+    record { flow = flow; next = (if flow.live then Some call otherwise None); last = last; left = left }
 
 -- the day after its last line: no message is left, and it does not go on
 abbrev pub ended_of : ℕ → Blocks → Progress

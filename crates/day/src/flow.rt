@@ -1,11 +1,11 @@
 // Buffered input and output, each through one large block. Output is flushed before more input is read, so that a
 // reader who waits for an answer gets it.
-ghost use Rattle.std.specs.Prelude.{◌≡◌, ◌+◌, ◌-◌, ◌<◌, ◌≤◌, true, length, IfSome, IfOk, OnOk, OnErr};
-ghost use Rattle.day.specs.Flow.{reach_of, Sees, lowered_flow, taken_of, flushed, with_at};
+ghost use Rattle.std.specs.Prelude.{◌≡◌, ◌+◌, ◌-◌, ◌<◌, ◌≤◌, true, length, IfSome};
+ghost use Rattle.day.specs.Flow.{reach_of, Sees, lowered_flow, taken_of, flushed, written};
 ghost use Rattle.day.specs.Printed.{printed_of, place_of, put_of};
 
 use rules::Answer;
-use std::io::{self, Read, Write};
+use std::io::{Read, Write};
 use std::marker::Model;
 use tape::Line;
 
@@ -27,9 +27,11 @@ pub struct Flow<R, W> {
     // how many bytes of the output's block are still to be written
     output: [u8; BLOCK],
     at: usize,
+    // false once the output has refused a write; a flag, since the laws of day speak of it and a line is put then too
+    live: bool,
 }
 
-// Clauses see both blocks and the positions in them, which are within the blocks.
+// Clauses see both blocks and the positions in them, which are within the blocks, and whether a write was refused.
 impl<R, W> Model for Flow<R, W> {
     ghost use Rattle.std.specs.Prelude.{◌≤◌};
     ghost use Rattle.day.specs.Blocks.{Blocks};
@@ -37,7 +39,7 @@ impl<R, W> Model for Flow<R, W> {
 
     ghost Value = { Blocks };
 
-    ghost view = { λ f. record { input = f.input; from = f.from; to = f.to; output = f.output; at = f.at } };
+    ghost view = { λ f. record { input = f.input; from = f.from; to = f.to; output = f.output; at = f.at; live = f.live } };
 
     ghost invariant = { λ f. (f.from ≤ f.to) × (f.to ≤ BLOCK) × (f.at ≤ BLOCK) };
 }
@@ -87,7 +89,15 @@ impl<R: Read, W: Write> Flow<R, W> {
             to: 0,
             output: [0; BLOCK],
             at: 0,
+            live: true,
         }
+    }
+
+    // Whether the output has taken all that was written.
+    pub(crate) fn is_live(&self) -> bool
+        ensures { result ≡ self.now.live }
+    {
+        self.live
     }
 
     // Looks for a whole line among the unread bytes.
@@ -125,62 +135,68 @@ impl<R: Read, W: Write> Flow<R, W> {
         self.from = 0;
     }
 
-    // Writes the pending output.
-    pub(crate) fn flush(&mut self) -> io::Result<()>
-        ensures ok { OnOk result (self.new ≡ flushed self.old) }
-        ensures err { OnErr result (self.new ≡ self.old) }
+    // Writes the pending output. Nothing of it is left where the output refuses it: nobody knows how much of it was taken.
+    pub(crate) fn flush(&mut self)
+        ensures { self.new ≡ flushed self.new.live self.old }
     {
-        self.writer.write_all(&self.output[..self.at])?;
+        let all = self.writer.write_all(&self.output[..self.at]).is_ok();
+        self.live &= all;
         self.at = 0;
-        Ok(())
     }
 
-    // Flushes the output and reads once; says whether that gave more bytes. It reads nothing where the unread bytes are
-    // already too long for a line.
-    fn more(&mut self) -> io::Result<bool>
-        ensures ok { IfOk result (λ more. more ≡ true → (self.old.to - self.old.from < 57) × (self.old.to - self.old.from < self.new.to - self.new.from)) }
-        ensures err { OnErr result (self.new ≡ self.old) }
-        ensures output_stays { self.new.output ≡ self.old.output }
+    // Moves the unread bytes to the front of their block, reads once into the room after them, and says whether that gave
+    // more of them.
+    fn refill(&mut self) -> bool
+        ensures at_value { (self.new.at ≡ self.old.at) × (self.new.from ≡ 0) }
+        ensures more { result ≡ true → self.old.to - self.old.from < self.new.to - self.new.from }
+        ensures output_stays { (self.new.output ≡ self.old.output) × (self.new.live ≡ self.old.live) }
     {
-        if LONGEST <= self.to - self.from {
-            return Ok(false);
-        }
-        self.flush()?;
         self.lower();
         let n = self.reader.read(&mut self.input[self.to..]).unwrap_or(0);
         self.to += n;
-        Ok(0 < n)
+        0 < n
+    }
+
+    // Flushes the output and reads once; says whether that gave more bytes. It reads nothing where the unread bytes are
+    // already too long for a line, or the output has refused a write.
+    fn more(&mut self) -> bool
+        ensures more { result ≡ true → (self.old.to - self.old.from < 57) × (self.old.to - self.old.from < self.new.to - self.new.from) }
+        ensures output_stays { self.new.output ≡ self.old.output }
+    {
+        if LONGEST <= self.to - self.from {
+            return false;
+        }
+        self.flush();
+        self.live && self.refill()
     }
 
     // The next line; none where there is none, where it is too long or where it cannot be read.
-    pub(crate) fn next_line(&mut self) -> io::Result<Option<Line>>
+    pub(crate) fn next_line(&mut self) -> Option<Line>
         ensures { self.new.output ≡ self.old.output }
     {
         let mut seen = self.look();
-        while seen.is_none() && self.more()? {
+        while seen.is_none() && self.more() {
             seen = self.look();
         }
-        Ok(self.take(seen))
+        self.take(seen)
     }
 
     // Makes room for a line: flushes the output's block where a line might not fit.
-    fn make_room(&mut self) -> io::Result<()>
-        ensures ok { OnOk result (self.new ≡ with_at (place_of (length self.old.output) self.old.at) self.old) }
-        ensures err { OnErr result (self.new ≡ self.old) }
+    #[tactic(auto, using(forms::proofs::Choice::tests), unfolding(crate::specs::Printed::place_of))]
+    fn make_room(&mut self)
+        ensures { self.new ≡ written (place_of (length self.old.output) self.old.at) self.new.live self.old }
     {
         if self.output.len() - self.at < tape::LONGEST_PRINTED {
-            self.flush()?;
+            self.flush();
         }
-        Ok(())
     }
 
-    // Puts a line into the output's block.
-    pub(crate) fn put(&mut self, stock: u32, time: u32, letter: u8, a: Answer) -> io::Result<()>
-        ensures output_after { OnOk result (record { to = self.new.at; bytes = self.new.output } ≡ put_of self.old.output self.old.at stock time letter a) }
-        ensures input_stays { OnOk result ((self.new.input ≡ self.old.input) × (self.new.from ≡ self.old.from) × (self.new.to ≡ self.old.to)) }
-        ensures err { OnErr result (self.new ≡ self.old) }
+    // Puts a line into the output's block, also where the output has refused a write.
+    pub(crate) fn put(&mut self, stock: u32, time: u32, letter: u8, a: Answer)
+        ensures output_after { record { to = self.new.at; bytes = self.new.output } ≡ put_of self.old.output self.old.at stock time letter a }
+        ensures input_stays { (self.new.input ≡ self.old.input) × (self.new.from ≡ self.old.from) × (self.new.to ≡ self.old.to) }
     {
-        self.make_room()?;
+        self.make_room();
         let numbers = numbers_of(a);
         self.at = tape::print(
             &mut self.output,
@@ -190,12 +206,13 @@ impl<R: Read, W: Write> Flow<R, W> {
             letter,
             &numbers,
         );
-        Ok(())
     }
 
     // Flushes the complete lines, and then reports which line cannot be read.
-    pub(crate) fn bad(&mut self, line: u64) -> io::Result<()> {
-        self.flush()?;
-        writeln!(self.writer, "BAD {line}")
+    pub(crate) fn bad(&mut self, line: u64) {
+        self.flush();
+        if self.live {
+            let _ = writeln!(self.writer, "BAD {line}");
+        }
     }
 }

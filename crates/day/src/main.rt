@@ -4,16 +4,16 @@
 
 mod flow;
 
-ghost use Rattle.std.specs.Prelude.{◌≡◌, ◌+◌, ◌*◌, ◌≤◌, ◌<◌, length, IfSome, OnErr};
+ghost use Rattle.std.specs.Prelude.{◌≡◌, ◌+◌, ◌*◌, ◌≤◌, ◌<◌, length, IfSome, MatchResult, OnErr};
 ghost use Rattle.day.specs.Flow.{with_flow};
 ghost use Rattle.day.specs.Spoken.{spoken_of, day_at, ended_of};
 ghost use Rattle.day.specs.Contents.{contents_of, setup_of, is_setup, entered};
-ghost use Rattle.day.specs.Printed.{mark_of};
+ghost use Rattle.day.specs.Printed.{mark_of, put_of};
 
 use flow::Flow;
 use rules::{DONE, Message, Notice, PLACES, SETUP_NUMBERS, Setup};
 use shelf::Shelf;
-use std::io::{self, Read, Write};
+use std::io::{Read, Write};
 use std::marker::Model;
 use stock::{Step, Until};
 use tape::Line;
@@ -27,20 +27,9 @@ const DAY_PLACES: usize = DAY_STOCKS as usize * PLACES;
 // The numbers of so many setups.
 const DAY_NUMBERS: usize = DAY_STOCKS as usize * SETUP_NUMBERS;
 
-// Why a day ends early. Each ends it by `?`: after a refused write nothing more is read, played or written.
+// The number of a line that cannot be read: it ends the day early.
 #[derive(Clone, Copy)]
-enum Stop {
-    // the line of this number cannot be read
-    Bad(u64),
-    // the output has refused a write
-    Refused,
-}
-
-impl From<io::Error> for Stop {
-    fn from(_e: io::Error) -> Stop {
-        Stop::Refused
-    }
-}
+struct Bad(u64);
 
 // The content of the first line.
 #[derive(Clone, Copy)]
@@ -78,7 +67,7 @@ impl Book<'_> {
 #[derive(Drop)]
 struct Day<R, W> {
     flow: Flow<R, W>,
-    // the next message, if the day goes on
+    // the next message, if the day goes on, which it does while the output takes what is written
     next: Option<Call>,
     // the number of the day's last line, and how many messages are still to be read
     last: u64,
@@ -194,13 +183,14 @@ impl<R: Read, W: Write> Day<R, W> {
         self.left = 0;
     }
 
-    // Goes on with the message of a line; `left` are behind it.
+    // Goes on with the message of a line, while the output takes what is written; `left` are behind it.
+    #[tactic(auto, using(forms::proofs::Choice::tests))]
     fn hear(&mut self, line: Line, message: Message, left: u32)
         requires { left ≤ self.old.last }
         ensures { self.new ≡ day_at line message self.old.last left self.old.flow }
     {
         let [stock, time, ..] = line.numbers;
-        self.next = Some(Call {
+        self.next = self.flow.is_live().then(|| Call {
             letter: line.letter,
             stock,
             time,
@@ -210,33 +200,37 @@ impl<R: Read, W: Write> Day<R, W> {
     }
 
     // Reads the next message, or ends the day after the last one.
-    fn advance(&mut self) -> Result<(), Stop>
-        ensures { OnErr result (self.new ≡ with_flow self.old self.new.flow) }
+    fn advance(&mut self) -> Result<(), Bad>
+        ensures { OnErr result ((self.new.next ≡ self.old.next) × (self.new.last ≡ self.old.last) × (self.new.left ≡ self.old.left)) }
     {
         if self.left == 0 {
-            self.flow.flush()?;
+            self.flow.flush();
             self.end();
             return Ok(());
         }
-        let bad = Stop::Bad(self.last - u64::from(self.left) + 1);
-        let line = self.flow.next_line()?.ok_or(bad)?;
+        let bad = Bad(self.last - u64::from(self.left) + 1);
+        let line = self.flow.next_line().ok_or(bad)?;
         let message = heard(line).ok_or(bad)?;
         self.hear(line, message, self.left - 1);
         Ok(())
     }
 
-    // Prints the line of a moment; the day goes on with the same message.
-    fn moment(&mut self, stock: u32, notice: Notice) -> io::Result<()>
-        ensures either { self.new ≡ with_flow self.old self.new.flow }
-        ensures err { OnErr result (self.new ≡ self.old) }
+    // Prints the line of a moment; the day goes on with the same message, while the output takes what is written.
+    #[tactic(auto, using(forms::proofs::Choice::tests))]
+    fn moment(&mut self, stock: u32, notice: Notice)
+        ensures goes_on { self.new ≡ with_flow self.old self.new.flow }
+        ensures output_after { record { to = self.new.flow.at; bytes = self.new.flow.output } ≡ put_of self.old.flow.output self.old.flow.at stock notice.time (mark_of notice.mark) notice.answer }
     {
         self.flow
-            .put(stock, notice.time, mark_of(notice.mark), notice.answer)
+            .put(stock, notice.time, mark_of(notice.mark), notice.answer);
+        if !self.flow.is_live() {
+            self.next = None;
+        }
     }
 
     // Plays the messages. A turn settles one moment that is due by the message's time, or, where none is, tells the
     // message and reads the next.
-    fn play(&mut self, mut book: Book) -> Result<(), Stop> {
+    fn play(&mut self, mut book: Book) -> Result<(), Bad> {
         // a loop has to end, and no contract says that a stock's moments do; no run makes so many turns
         for _ in 0..u64::MAX {
             let Some(call) = self.next else {
@@ -244,37 +238,39 @@ impl<R: Read, W: Write> Day<R, W> {
             };
             let notice = book.step(call.stock, Until(call.time));
             if notice.answer.number == DONE {
-                self.moment(call.stock, notice)?;
+                self.moment(call.stock, notice);
                 continue;
             }
             let told = book.step(call.stock, call.message);
-            self.flow.put(call.stock, call.time, call.letter, told)?;
+            self.flow.put(call.stock, call.time, call.letter, told);
             self.advance()?;
         }
         Ok(())
     }
 
-    // Reads the setups, and lists their numbers. It counts the stocks, since `enters` of specs/Laws says where in the
-    // whole list each setup stands, which a part of it, as `chunks_exact_mut` gives, does not show.
-    fn setups(&mut self, list: &mut [u32], stocks: usize) -> Result<(), Stop>
+    // Reads the setups, lists their numbers, and gives how many lines were read with the first. It counts the stocks, since
+    // `enters` of specs/Laws says where in the whole list each setup stands, which a part of it, as `chunks_exact_mut` gives,
+    // does not show.
+    fn setups(&mut self, list: &mut [u32], stocks: usize) -> Result<u64, Bad>
         requires { 4 * stocks ≤ length list.old }
+        ensures { MatchResult result (λ lines. lines ≡ stocks + 1) (λ bad. (2 ≤ bad.0) × (bad.0 ≤ stocks + 1)) }
     {
         for i in 0..stocks {
-            let line = self.flow.next_line()?.filter(|line| is_setup(*line));
-            enter(list, i, line.ok_or(Stop::Bad(i as u64 + 2))?);
+            let line = self.flow.next_line().filter(|line| is_setup(*line));
+            enter(list, i, line.ok_or(Bad(i as u64 + 2))?);
         }
-        Ok(())
+        Ok(stocks as u64 + 1)
     }
 
     // Reads and plays a whole day.
-    fn run(&mut self) -> Result<(), Stop> {
-        let line = self.flow.next_line()?;
-        let contents = line.and_then(contents_of).ok_or(Stop::Bad(1))?;
+    fn run(&mut self) -> Result<(), Bad> {
+        let line = self.flow.next_line();
+        let contents = line.and_then(contents_of).ok_or(Bad(1))?;
         let stocks = contents.stocks as usize;
         let mut list = [0; DAY_NUMBERS];
         let list = &mut list[..SETUP_NUMBERS * stocks];
-        self.setups(list, stocks)?;
-        self.last = 1 + u64::from(contents.stocks) + u64::from(contents.messages);
+        let lines = self.setups(list, stocks)?;
+        self.last = lines + u64::from(contents.messages);
         self.left = contents.messages;
         self.advance()?;
         let mut times = [0; DAY_PLACES];
@@ -293,7 +289,7 @@ impl<R: Read, W: Write> Day<R, W> {
 
 fn main(rt: HostRuntime) {
     let mut day = Day::new(rt.stdin(), rt.stdout());
-    if let Err(Stop::Bad(line)) = day.run() {
-        let _ = day.flow.bad(line);
+    if let Err(Bad(line)) = day.run() {
+        day.flow.bad(line);
     }
 }

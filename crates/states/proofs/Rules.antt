@@ -30,12 +30,12 @@ use Rattle.states.specs.declared.rule.Turn.TheVariants.{Still, Looking}
 module _ (k : Kept) where
   -- ------------------------------------------------------------------ turns
 
-  looks : (rule : Stock → Stock) (n : Ready) → n.kept.course.state ≡ Trading → ((q : Quotes) → look (stock_of n.kept q) ≡ rule (stock_of k q))
+  pub looks : (rule : Stock → Stock) (n : Ready) → n.kept.course.state ≡ Trading → ((q : Quotes) → look (stock_of n.kept q) ≡ rule (stock_of k q))
       → Turns rule k (Looking n)
   unfolding turned_to left_to quote_rules
   looks rule n s r = record { turned = r; left = λ f q. let e : eqb n.kept.course.state Limit ≡ false = rw s in if_false _ _ _ e ∙ r q }
 
-  stays : (rule : Stock → Stock) (n : Ready) → ((q : Quotes) → stock_of n.kept q ≡ rule (stock_of k q)) → Turns rule k (Still n)
+  pub stays : (rule : Stock → Stock) (n : Ready) → ((q : Quotes) → stock_of n.kept q ≡ rule (stock_of k q)) → Turns rule k (Still n)
   unfolding turned_to left_to
   stays rule n r = record { turned = r; left = λ f q. r q }
 

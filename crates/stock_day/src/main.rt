@@ -4,6 +4,8 @@
 
 mod play;
 
+ghost use Rattle.stock.specs.View.{bytes, Tells, Settles};
+
 use play::Player;
 use rules::{Answer, Message, Notice, PLACES};
 use std::io;
@@ -32,14 +34,18 @@ impl Single {
 struct ByValue(Single);
 
 impl Player for ByValue {
-    fn tell(&mut self, _stock: u32, message: Message) -> Answer {
+    fn tell(&mut self, _stock: u32, message: Message) -> Answer
+        ensures { Tells message (bytes self.old.0.record self.old.0.times self.old.0.prices) (record { answer = result; next = self.new.0.record }) self.new.0.times self.new.0.prices }
+    {
         let s = &mut self.0;
         let told = s.record.tell(&mut s.times, &mut s.prices, message);
         s.record = told.next;
         told.answer
     }
 
-    fn settle(&mut self, _stock: u32, time: u32) -> Notice {
+    fn settle(&mut self, _stock: u32, time: u32) -> Notice
+        ensures { Settles time (bytes self.old.0.record self.old.0.times self.old.0.prices) (record { answer = result; next = self.new.0.record }) self.new.0.times self.new.0.prices }
+    {
         let s = &mut self.0;
         let settled = s.record.settle(&mut s.times, &mut s.prices, time);
         s.record = settled.next;
@@ -52,12 +58,16 @@ impl Player for ByValue {
 struct Lent(Single);
 
 impl Player for Lent {
-    fn tell(&mut self, _stock: u32, message: Message) -> Answer {
+    fn tell(&mut self, _stock: u32, message: Message) -> Answer
+        ensures { Tells message (bytes self.old.0.record self.old.0.times self.old.0.prices) (record { answer = result; next = self.new.0.record }) self.new.0.times self.new.0.prices }
+    {
         let s = &mut self.0;
         book::step_one(&mut s.record, &mut s.times, &mut s.prices, message)
     }
 
-    fn settle(&mut self, _stock: u32, time: u32) -> Notice {
+    fn settle(&mut self, _stock: u32, time: u32) -> Notice
+        ensures { Settles time (bytes self.old.0.record self.old.0.times self.old.0.prices) (record { answer = result; next = self.new.0.record }) self.new.0.times self.new.0.prices }
+    {
         let s = &mut self.0;
         book::step_one(&mut s.record, &mut s.times, &mut s.prices, Until(time))
     }

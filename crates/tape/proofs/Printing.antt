@@ -150,7 +150,7 @@ pub fields_out : (ns o p q : List ℕ) (n i at to : ℕ) → n ≡ length ns →
 fields_out ns o p q n i at to m h e f g = rw (one_more ns i (omega arith)) (behind o p q (parted (map digits (take i ns))) _ at to e f g)
 
 -- all of them
-fields_all_to : (ns : List ℕ) (n i at to : ℕ) → n ≡ length ns → n ≤ i → to ≡ at + length (parted (map digits (take i ns)))
+pub fields_all_to : (ns : List ℕ) (n i at to : ℕ) → n ≡ length ns → n ≤ i → to ≡ at + length (parted (map digits (take i ns)))
     → to ≡ at + length (parted (map digits ns))
 fields_all_to ns n i at to m h e = rw (take_all i ns (omega arith)) at e
 
